@@ -1,0 +1,5 @@
+pub mod Digits
+pub mod Lines
+pub mod Writes
+pub mod Run
+pub mod Lawful
