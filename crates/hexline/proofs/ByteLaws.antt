@@ -1,23 +1,23 @@
 -- The bytes of a line: where they stand, that written ones are read back, and that a line that is read is what its bytes are
 -- written as. By two digits at a time.
-use Prim.Native.Nat.{ℕ, zero, suc, _+_, _*_, _/_, _%_, _≤_, _<_, zero-le, suc-le-suc}
-use mathlib.Core.Bool.{Bool, true, false, cond, not, _&&_, and-false, true≢false}
+use Prim.Native.Nat.{ℕ, zero, suc, _+_, _*_, _/_, _%_, _≤_, _<_}
+use mathlib.Core.Bool.{true, not, _&&_, and-false, true≢false}
 use mathlib.Core.List.{List, [], _∷_, _++_}
 use mathlib.Core.Path.{_≡_, refl, ap, ap₂, sym, _∙_}
 use native.Mathlib.Omega.{arith}
 use native.Mathlib.Numerals.{add-one}
 use lib.Dec.{eqb}
-use lib.ListN.{length, getD, take, drop, length-append, List·getD-eq-default}
+use lib.ListN.{length, getD, take, drop, List·getD-eq-default}
 use lib.Seq.{length-take-le}
-use borrow.Author.Tests.{eqb-true, eqb-false, eq-eqb, ne-eqb, not-true}
-use Rattle.hexline.specs.Digits.{newline, hexOf, digitOf, isDigit}
+use borrow.Author.Tests.{eqb-true, eqb-false, ne-eqb, not-true}
+use Rattle.hexline.specs.Digits.{newline, digitOf, isDigit}
 use Rattle.hexline.specs.Lines.{lineLength, allDigits, wellFormed, lineOf, byteOf, spelled, byteAt, numberAt}
 use Rattle.hexline.specs.Writes.{pairOf, pairsOf, numberText, lineText}
 use Rattle.hexline.specs.Lawful.{Bytes, WholeLine}
 use Rattle.hexline.specs.declared.read.Line.{Line}
 use Rattle.hexline.specs.declared.read.Line.the-variants.{Whole, IllFormed, Unended}
 use Rattle.hexline.proofs.Cond.{by-cond, both}
-use Rattle.hexline.proofs.DigitLaws.{byte-none, byte-small, byte-back, pair-back, hex-is-digit, digit-hex}
+use Rattle.hexline.proofs.DigitLaws.{byte-none, byte-small, byte-back, pair-back, hex-is-digit}
 use Rattle.hexline.proofs.LineLaws.{line-le, newline-at, line-ends, newline-in}
 
 -- ---- byte k is spelled by the digits at 2 * k

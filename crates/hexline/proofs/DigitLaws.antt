@@ -1,23 +1,26 @@
--- A digit and its value are each other's inverse; a byte and its two digits too. By the ranges 48-57 and 65-70.
+-- A digit and its value are each other's inverse; a byte and its two digits too. By the two ranges, 0-9 and A-F.
 use Prim.Native.Nat.{ℕ, _+_, _-_, _*_, _/_, _%_, _≤_, _<_}
-use mathlib.Core.Bool.{Bool, true, false, cond, not, _&&_, _||_}
-use mathlib.Core.List.{List, [], _∷_}
-use mathlib.Core.Path.{_≡_, refl, ap, sym, _∙_}
+use mathlib.Core.Bool.{true, false, not, _&&_, _||_}
+use mathlib.Core.List.{[], _∷_, map}
+use mathlib.Core.Path.{_≡_, refl, ap, _∙_}
 use native.Mathlib.Omega.{arith}
 use lib.Dec.{ltb, leb, eqb}
-use borrow.Author.Tests.{ltb-true, ltb-false, leb-true, leb-false, eqb-false, eq-eqb, ne-eqb, lt-ltb, le-ltb, le-leb, lt-leb, not-true, not-false}
-use Rattle.hexline.specs.Digits.{digitOf, hexOf, isDigit, noDigit}
+use borrow.Author.Tests.{ltb-true, ltb-false, leb-true, eqb-false, eq-eqb, ne-eqb, lt-ltb, le-ltb, le-leb, lt-leb, not-true}
+use Rattle.hexline.specs.Digits.{digitZero, digitNine, letterA, letterF, noDigit, digitOf, hexOf, isDigit}
 use Rattle.hexline.specs.Lines.{byteOf}
 use Rattle.hexline.specs.Writes.{pairOf}
 use Rattle.hexline.proofs.Cond.{by-cond, both, neither}
 
-pub digit-le : (b : ℕ) → digitOf b ≤ 16
+pub digit-le : (b : ℕ) → digitOf b ≤ noDigit
 unfolding digitOf
 digit-le b =
-    by-cond (λ (n : ℕ). n ≤ 16) (ltb b 48) _ _ (λ e. omega arith)
-    (λ e. by-cond (λ (n : ℕ). n ≤ 16) (leb b 57) _ _ (λ e₁. omega (arith, leb-true b 57 e₁))
-    (λ e₁. by-cond (λ (n : ℕ). n ≤ 16) (ltb b 65) _ _ (λ e₂. omega arith)
-    (λ e₂. by-cond (λ (n : ℕ). n ≤ 16) (leb b 70) _ _ (λ e₃. omega (arith, leb-true b 70 e₃)) (λ e₃. omega arith))))
+    by-cond Small (ltb b digitZero) _ _ (λ e. omega arith)
+    (λ e. by-cond Small (leb b digitNine) _ _ (λ e₁. omega (arith, leb-true b digitNine e₁))
+    (λ e₁. by-cond Small (ltb b letterA) _ _ (λ e₂. omega arith)
+    (λ e₂. by-cond Small (leb b letterF) _ _ (λ e₃. omega (arith, leb-true b letterF e₃)) (λ e₃. omega arith))))
+  where
+    Small : ℕ → Type 0
+    Small n = n ≤ noDigit
 
 -- a byte is a digit exactly where its value is below 16
 pub digit-value : (b : ℕ) → isDigit b ≡ true → digitOf b < 16
@@ -34,26 +37,45 @@ no-digit b e = rw (eq-eqb (digitOf b) 16 e)
 
 pub digit-hex : (value : ℕ) → value < 16 → digitOf (hexOf value) ≡ value
 unfolding digitOf hexOf
-digit-hex d h =
-    by-cond (λ (x : ℕ). digitOf x ≡ d) (ltb d 10) _ _
-    (λ e. let l = ltb-true d 10 e in rw (le-ltb (d + 48) 48 (omega arith), le-leb (d + 48) 57 (omega arith)) (omega arith))
+digit-hex value h =
+    by-cond (λ (x : ℕ). digitOf x ≡ value) (ltb value 10) _ _
     (λ e.
-    let l = ltb-false d 10 e in
-    rw (le-ltb (d + 55) 48 (omega arith), lt-leb (d + 55) 57 (omega arith), le-ltb (d + 55) 65 (omega arith), le-leb (d + 55) 70 (omega arith)) (omega arith))
+    let l = ltb-true value 10 e in
+    let b = value + digitZero in
+    rw (le-ltb b digitZero (omega arith), le-leb b digitNine (omega arith)) (omega arith))
+    (λ e.
+    let l = ltb-false value 10 e in
+    let b = value - 10 + letterA in
+    rw (le-ltb b digitZero (omega arith), lt-leb b digitNine (omega arith), le-ltb b letterA (omega arith), le-leb b letterF (omega arith)) (omega arith))
 
 value-hex : (b : ℕ) → digitOf b < 16 → hexOf (digitOf b) ≡ b
 unfolding digitOf hexOf
 value-hex b =
-    by-cond (λ (x : ℕ). x < 16 → hexOf x ≡ b) (ltb b 48) _ _ (λ e h. absurd (omega arith))
-    (λ e. by-cond (λ (x : ℕ). x < 16 → hexOf x ≡ b) (leb b 57) _ _
-    (λ e₁ h. let u = ltb-false b 48 e in let v = leb-true b 57 e₁ in rw (lt-ltb (b - 48) 10 (omega arith)) (omega arith))
-    (λ e₁. by-cond (λ (x : ℕ). x < 16 → hexOf x ≡ b) (ltb b 65) _ _ (λ e₂ h. absurd (omega arith))
-    (λ e₂. by-cond (λ (x : ℕ). x < 16 → hexOf x ≡ b) (leb b 70) _ _
-    (λ e₃ h. let u = ltb-false b 65 e₂ in let v = leb-true b 70 e₃ in rw (le-ltb (b - 55) 10 (omega arith)) (omega arith))
+    by-cond Back (ltb b digitZero) _ _ (λ e h. absurd (omega arith))
+    (λ e. by-cond Back (leb b digitNine) _ _
+    (λ e₁ h.
+    let u = ltb-false b digitZero e in
+    let v = leb-true b digitNine e₁ in
+    rw (lt-ltb (b - digitZero) 10 (omega arith)) (omega arith))
+    (λ e₁. by-cond Back (ltb b letterA) _ _ (λ e₂ h. absurd (omega arith))
+    (λ e₂. by-cond Back (leb b letterF) _ _
+    (λ e₃ h.
+    let u = ltb-false b letterA e₂ in
+    let v = leb-true b letterF e₃ in
+    rw (le-ltb (b - letterA + 10) 10 (omega arith)) (omega arith))
     (λ e₃ h. absurd (omega arith)))))
+  where
+    Back : ℕ → Type 0
+    Back x = x < 16 → hexOf x ≡ b
 
 pub hex-digit : (b : ℕ) → isDigit b ≡ true → hexOf (digitOf b) ≡ b
 hex-digit b e = value-hex b (digit-value b e)
+
+-- the digits are 0123456789ABCDEF
+pub upper-case : map hexOf (0 ∷ 1 ∷ 2 ∷ 3 ∷ 4 ∷ 5 ∷ 6 ∷ 7 ∷ 8 ∷ 9 ∷ 10 ∷ 11 ∷ 12 ∷ 13 ∷ 14 ∷ 15 ∷ [])
+    ≡ 48 ∷ 49 ∷ 50 ∷ 51 ∷ 52 ∷ 53 ∷ 54 ∷ 55 ∷ 56 ∷ 57 ∷ 65 ∷ 66 ∷ 67 ∷ 68 ∷ 69 ∷ 70 ∷ []
+unfolding hexOf
+upper-case = refl
 
 pub hex-is-digit : (value : ℕ) → value < 16 → isDigit (hexOf value) ≡ true
 hex-is-digit value h = value-digit (hexOf value) (λ e. omega (arith, digit-hex value h))

@@ -1,17 +1,17 @@
 -- A text laid over a buffer at a place: what a writer that goes from the front to the back has done so far. `Laid` is kept by
 -- each write (`laid-more`), and at the end it is what the writer's contract says (`laid-is`, `laid-after`).
-use Prim.Native.Nat.{ℕ, zero, suc, _+_, _-_, _*_, _≤_, _<_}
-use mathlib.Core.Bool.{Bool, true, false, cond, not}
+use Prim.Native.Nat.{ℕ, suc, _+_, _-_, _*_, _≤_, _<_}
+use mathlib.Core.Bool.{Bool, true, false, not}
 use mathlib.Core.List.{List, [], _∷_, _++_, append-assoc, append-nil}
 use mathlib.Core.Path.{_≡_, refl, ap, sym, _∙_}
 use native.Mathlib.Omega.{arith}
-use native.Mathlib.Nat.{add-zero, zero-add}
+use native.Mathlib.Nat.{add-zero}
 use native.Mathlib.Numerals.{add-one}
 use lib.Dec.{leb}
-use lib.ListN.{length, getD, take, drop, set, length-append, length-drop, take-append-drop}
-use lib.Seq.{length-take-le, set-split, take-at, take-suc, drop-append-add, drop-drop}
+use lib.ListN.{length, getD, take, drop, set, List·getD-append, length-append, length-drop, take-append-drop}
+use lib.Seq.{length-take-le, set-split, take-at, take-suc, drop-append-add, drop-drop, getD-append-add, getD-take, getD-drop}
 use borrow.Author.Tests.{le-leb, lt-leb, leb-true, leb-false, not-true, not-false}
-use Rattle.hexline.proofs.Cond.{same-test}
+use Rattle.hexline.proofs.Cond.{by-cond, same-test}
 use Rattle.hexline.specs.Writes.{pairOf, pairsOf, fitsAt, lay, after}
 
 -- what laying comes to where there is room
@@ -56,6 +56,46 @@ module _ (out : List ℕ) (at : ℕ) (text : List ℕ) (h : at + length text ≤
       ap (λ (k : ℕ). drop (k + length more) (p ++ q)) (sym front-length) ∙ drop-append-add p q (length more) ∙ drop-drop (length more) (at + length text) out in
       let n : at + length (text ++ more) ≡ at + length text + length more = omega (arith, length-append text more) in
       rw (all, front, back, n) (append-assoc (take at out) text _ ∙ ap (λ (l : List ℕ). take at out ++ l) (sym (append-assoc text more _)))
+
+-- ---- byte by byte
+
+-- there is room for a text, or there is none
+by-room : (P : List ℕ → Type 0) (out : List ℕ) (at : ℕ) (text : List ℕ) → (at + length text ≤ length out → P (over out at text)) → P out → P (lay out at text)
+unfolding lay fitsAt
+by-room P out at text roomy short =
+    by-cond P (leb (at + length text) (length out)) _ _ (λ e. roomy (leb-true (at + length text) (length out) e)) (λ e. short)
+
+pub lay-length : (out text : List ℕ) (at : ℕ) → length (lay out at text) ≡ length out
+lay-length out text at = by-room (λ (l : List ℕ). length l ≡ length out) out at text (over-length out at text) refl
+
+pub lay-refused : (out text : List ℕ) (at : ℕ) → length out < at + length text → lay out at text ≡ out
+lay-refused out text at h = lay-none out at text h
+
+pub lay-inside : (out text : List ℕ) (at k : ℕ) → at + length text ≤ length out → k < length text → getD (lay out at text) (at + k) 0 ≡ getD text k 0
+lay-inside out text at k h l =
+    let front = length-take-le at out (omega arith) in
+    rw (lay-over out at text h)
+    (ap (λ (n : ℕ). getD (over out at text) (n + k) 0) (sym front)
+    ∙ getD-append-add (take at out) (text ++ drop (at + length text) out) k 0
+    ∙ List·getD-append text (drop (at + length text) out) 0 k l)
+
+pub lay-before : (out text : List ℕ) (at k : ℕ) → k < at → getD (lay out at text) k 0 ≡ getD out k 0
+lay-before out text at k l =
+    by-room (λ (o : List ℕ). getD o k 0 ≡ getD out k 0) out at text
+    (λ h.
+    let front = length-take-le at out (omega arith) in
+    List·getD-append (take at out) (text ++ drop (at + length text) out) 0 k (omega arith) ∙ getD-take at out k 0 l)
+    refl
+
+pub lay-past : (out text : List ℕ) (at k : ℕ) → getD (lay out at text) (at + length text + k) 0 ≡ getD out (at + length text + k) 0
+lay-past out text at k =
+    by-room (λ (o : List ℕ). getD o (at + length text + k) 0 ≡ getD out (at + length text + k) 0) out at text
+    (λ h.
+    rw (← append-assoc (take at out) text (drop (at + length text) out))
+    (ap (λ (n : ℕ). getD ((take at out ++ text) ++ drop (at + length text) out) (n + k) 0) (sym (front-length out at text h))
+    ∙ getD-append-add (take at out ++ text) (drop (at + length text) out) k 0
+    ∙ getD-drop (at + length text) out k 0))
+    refl
 
 -- the code's test for room
 pub room-left : (size at needed : ℕ) → at ≤ size → leb needed (size - at) ≡ leb (at + needed) size

@@ -5,3 +5,4 @@ pub mod LineLaws
 pub mod ByteLaws
 pub mod LayLaws
 pub mod Laws
+pub mod Examples

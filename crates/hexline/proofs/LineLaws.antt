@@ -4,10 +4,10 @@ use Prim.Native.Nat.{ℕ, zero, suc, _+_, _/_, _%_, _≤_, _<_, zero-le, suc-le-
 use mathlib.Core.Bool.{Bool, true, false, cond, not, _&&_, _||_}
 use mathlib.Core.Logic.{_↔_}
 use mathlib.Core.List.{List, [], _∷_, _++_}
-use mathlib.Core.Path.{_≡_, refl, ap, sym, _∙_, subst}
+use mathlib.Core.Path.{_≡_, refl, ap, sym, _∙_}
 use native.Mathlib.Omega.{arith}
 use lib.Dec.{eqb}
-use lib.ListN.{length, getD, take, drop, length-append, length-take, List·getD-eq-default, drop-of-length-le}
+use lib.ListN.{length, getD, take, drop, length-append, drop-of-length-le}
 use lib.Seq.{take-append-le, length-take-le, drop-cons}
 use borrow.Author.Tests.{eqb-true, eqb-false, eq-eqb, ne-eqb}
 use Rattle.hexline.specs.Digits.{newline}
@@ -16,8 +16,8 @@ use Rattle.hexline.specs.Run.{runOf}
 use Rattle.hexline.specs.Lawful.{FirstNewline}
 use Rattle.hexline.specs.declared.read.Line.{Line}
 use Rattle.hexline.specs.declared.read.Line.the-variants.{Whole, IllFormed, Unended}
-use Rattle.hexline.proofs.Cond.{by-cond, both}
-use Rattle.hexline.proofs.RunLaws.{run-le, line-run, run-digits, run-other}
+use Rattle.hexline.proofs.Cond.{by-cond}
+use Rattle.hexline.proofs.RunLaws.{line-run, run-digits, run-other}
 
 -- ---- the first newline
 

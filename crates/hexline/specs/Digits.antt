@@ -7,18 +7,34 @@ use lib.Dec.{ltb, leb, eqb}
 abbrev pub newline : ℕ
 newline = 10
 
+-- 0-9, and A-F in upper case
+abbrev pub digitZero : ℕ
+digitZero = 48
+
+abbrev pub digitNine : ℕ
+digitNine = 57
+
+abbrev pub letterA : ℕ
+letterA = 65
+
+abbrev pub letterF : ℕ
+letterF = 70
+
 -- what stands for the value of a byte that is no digit
 abbrev pub noDigit : ℕ
 noDigit = 16
 
--- the value of 0-9 (bytes 48 to 57) and of A-F (bytes 65 to 70); any other byte has none
+-- a digit's value
 unfoldable pub digitOf : ℕ → ℕ
 digitOf b =
-    cond (ltb b 48) noDigit (cond (leb b 57) (b - 48) (cond (ltb b 65) noDigit (cond (leb b 70) (b - 55) noDigit)))
+    cond (ltb b digitZero) noDigit
+    (cond (leb b digitNine) (b - digitZero)
+    (cond (ltb b letterA) noDigit
+    (cond (leb b letterF) (b - letterA + 10) noDigit)))
 
 -- a value's digit
 unfoldable pub hexOf : ℕ → ℕ
-hexOf value = cond (ltb value 10) (value + 48) (value + 55)
+hexOf value = cond (ltb value 10) (value + digitZero) (value - 10 + letterA)
 
 -- whether a byte is a digit
 unfoldable pub isDigit : ℕ → Bool

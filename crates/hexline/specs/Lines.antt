@@ -2,11 +2,11 @@
 -- begins there." What the line is that a text begins with, and which bytes it has. Ill formed is what document 01 refuses as
 -- "empty line, odd digits, another byte"; "no newline at the line's end" is an answer of its own, since more may follow.
 use Prim.Native.Nat.{ℕ, suc, _+_, _*_, _/_, _%_}
-use mathlib.Core.Bool.{Bool, true, false, cond, not, _&&_, _||_}
+use mathlib.Core.Bool.{Bool, true, cond, not, _&&_}
 use mathlib.Core.List.{List, [], _∷_}
 use lib.ListN.{length, getD, take}
 use lib.Dec.{eqb}
-use Rattle.hexline.specs.Digits.{newline, noDigit, digitOf, isDigit}
+use Rattle.hexline.specs.Digits.{newline, digitOf, isDigit}
 use Rattle.hexline.specs.declared.read.Line.{Line}
 use Rattle.hexline.specs.declared.read.Line.the-variants.{Whole, IllFormed, Unended}
 

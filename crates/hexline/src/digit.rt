@@ -5,6 +5,14 @@ ghost use Rattle.hexline.specs.Digits.{digitOf, hexOf};
 
 pub const NEWLINE: u8 = 10;
 
+const DIGIT_ZERO: u8 = 48;
+
+const DIGIT_NINE: u8 = 57;
+
+const LETTER_A: u8 = 65;
+
+const LETTER_F: u8 = 70;
+
 // What `digit` gives for a byte that is no digit.
 pub const NO_DIGIT: u8 = 16;
 
@@ -12,17 +20,17 @@ pub const NO_DIGIT: u8 = 16;
 pub(crate) fn digit(b: u8) -> u8
     ensures { λ r. ⌜ r ≡ digitOf b ⌝ }
 {
-    if b < 48 {
+    if b < DIGIT_ZERO {
         return NO_DIGIT;
     }
-    if b <= 57 {
-        return b - 48;
+    if b <= DIGIT_NINE {
+        return b - DIGIT_ZERO;
     }
-    if b < 65 {
+    if b < LETTER_A {
         return NO_DIGIT;
     }
-    if b <= 70 {
-        return b - 55;
+    if b <= LETTER_F {
+        return b - LETTER_A + 10;
     }
     NO_DIGIT
 }
@@ -33,7 +41,7 @@ pub(crate) fn hex(value: u8) -> u8
     ensures { λ r. ⌜ r ≡ hexOf value ⌝ }
 {
     if value < 10 {
-        return value + 48;
+        return value + DIGIT_ZERO;
     }
-    value + 55
+    value - 10 + LETTER_A
 }

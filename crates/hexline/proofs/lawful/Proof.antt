@@ -1,10 +1,8 @@
+-- `lawful` meets its contract: the laws hold.
 use Rattle.hexline.proofs.lawful.Statement.{statement}
 use Rattle.hexline.proofs.lawful.Tie as tie
-use Rattle.hexline.proofs.lawful.Reads as reads
-use Rattle.hexline.proofs.lawful.Lts as lts
 use Rattle.hexline.proofs.Laws.{laws}
 
--- src/lib.rt:21:1
 returns : tie.Need-returns
 returns c = laws
 

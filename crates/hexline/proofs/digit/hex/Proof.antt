@@ -1,25 +1,20 @@
+-- `hex` meets its contract: by the test whether the value is below 10.
 use borrow.Author.Needs.{needs}
 use Rattle.hexline.proofs.digit.hex.Statement.{statement}
 use Rattle.hexline.proofs.digit.hex.Tie as tie
-use Rattle.hexline.proofs.digit.hex.Reads as reads
-use Rattle.hexline.proofs.digit.hex.Lts as lts
 use borrow.Author.Tests.{lt-ltb, le-ltb}
 use Rattle.hexline.specs.Digits.{hexOf}
 
--- src/digit.rt:36:16
 add-result : tie.Need-add-result
 add-result c = search needs
 
--- src/digit.rt:36:9
 returns : tie.Need-returns
 unfolding hexOf
 returns c = rw (lt-ltb _ _ (c .if1 .taken))
 
--- src/digit.rt:38:5
 add-result-2 : tie.Need-add-result-2
 add-result-2 c = search needs
 
--- src/digit.rt:31:1
 returns-2 : tie.Need-returns-2
 unfolding hexOf
 returns-2 c = rw (le-ltb _ _ (c .if1 .left))

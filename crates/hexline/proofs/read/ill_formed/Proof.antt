@@ -1,10 +1,9 @@
+-- `ill_formed` meets its contract. The loop's invariant: the line's length is what was passed and that of what is left.
 use Rattle.hexline.proofs.read.ill_formed.Statement.{statement}
 use Rattle.hexline.proofs.read.ill_formed.Tie as tie
-use Rattle.hexline.proofs.read.ill_formed.Reads as reads
-use Rattle.hexline.proofs.read.ill_formed.Lts as lts
 use native.Mathlib.Omega.{arith}
 use Prim.Native.Nat.{_≤_, _+_, _-_, suc}
-use mathlib.Core.Path.{_≡_, sym, _∙_}
+use mathlib.Core.Path.{_≡_, sym}
 use native.Mathlib.Numerals.{add-one}
 use lib.ListN.{length, drop}
 use Rattle.hexline.specs.Lines.{lineLength}
@@ -16,45 +15,37 @@ Inv-loop text from i₀ i = (i ≤ length text) × (from + lineLength (drop from
 abbrev μ-loop : tie.MeasureT-loop
 μ-loop text from i₀ i = length text - i
 
--- src/read.rt:40:5
 loop-holds : tie.Need-loop-holds Inv-loop μ-loop
 loop-holds c = omega arith
 
--- src/read.rt:41:12
 shared-slice-read-if1 : tie.Need-shared-slice-read-if1 Inv-loop μ-loop
 shared-slice-read-if1 c = omega arith
 
--- src/read.rt:42:23
 add-end : tie.Need-add-end Inv-loop μ-loop
 add-end c = omega arith
 
--- src/read.rt:43:13
 returns : tie.Need-returns Inv-loop μ-loop
-returns c = 
+returns c =
     let text = c .before .before .before .before .args .text .now in
     let i = c .before .before .before .loop .i in
     let here : c .before .before .before .before .args .from + lineLength (drop (c .before .before .before .before .args .from) text) ≡ i = omega (arith, search-stop text i (omega arith) (c .if1 .taken)) in
     rw (here, ended-here text i (omega arith), add-one)
 
--- src/read.rt:45:9
 add-i : tie.Need-add-i Inv-loop μ-loop
 add-i c = omega arith
 
--- src/read.rt:40:5
 loop-less : tie.Need-loop-less Inv-loop μ-loop
 loop-less c = omega arith
 
--- src/read.rt:40:5
 loop-again : tie.Need-loop-again Inv-loop μ-loop
-loop-again c = 
+loop-again c =
     let text = c .before .before .before .before .args .text .now in
     let i = c .before .before .before .loop .i in
     let more : lineLength (drop i text) ≡ suc (lineLength (drop (i + 1) text)) = rw add-one (search-more text i (omega arith) (c .if1 .left)) in
     omega arith
 
--- src/read.rt:35:1
 returns-2 : tie.Need-returns-2 Inv-loop μ-loop
-returns-2 c = 
+returns-2 c =
     let text = c .before .before .args .text .now in
     let i = c .before .loop .i in
     sym (ended-never text _ (omega (arith, search-end text i (c .loop-test .left))))

@@ -1,43 +1,32 @@
+-- `read_line` meets its contract: each return is one of the three ways of `LineLaws`, by the byte behind the digits.
 use borrow.Author.Needs.{needs}
 use Rattle.hexline.proofs.read.read_line.Statement.{statement}
 use Rattle.hexline.proofs.read.read_line.Tie as tie
-use Rattle.hexline.proofs.read.read_line.Reads as reads
-use Rattle.hexline.proofs.read.read_line.Lts as lts
-use Rattle.hexline.proofs.read.ill_formed.Reads as ill-formed-reads
-use Rattle.hexline.proofs.read.run.Reads as run-reads
-use mathlib.Core.Path.{_≡_, refl, sym, ap, _∙_}
+use mathlib.Core.Path.{refl, sym, _∙_}
 use native.Mathlib.Numerals.{add-one}
 use Rattle.hexline.proofs.LineLaws.{line-unended, line-other, line-digits}
 
--- src/read.rt:54:9
 run-requires : tie.Need-run-requires
 run-requires c κs = search needs
 
--- src/read.rt:56:9
 returns : tie.Need-returns
 returns c = (sym (line-unended _ _ (c .before .run .ensures) (c .if1 .taken)), refl)
 
--- src/read.rt:58:16
 shared-slice-read-next : tie.Need-shared-slice-read-next
 shared-slice-read-next c = search needs
 
--- src/read.rt:60:9
 ill-formed-requires : tie.Need-ill-formed-requires
 ill-formed-requires c κs = search needs
 
--- src/read.rt:60:9
 returns-2 : tie.Need-returns-2
 returns-2 c = (c .ill-formed .ensures ∙ sym (line-other _ _ (c .before .before .before .before .run .ensures) (c .before .before .before .if1 .left) (c .before .if2 .taken)), refl)
 
--- src/read.rt:62:15
 add-end : tie.Need-add-end
 add-end c = search needs
 
--- src/read.rt:64:9
 returns-3 : tie.Need-returns-3
 returns-3 c = (rw (line-digits _ _ (c .before .before .before .before .run .ensures) (c .before .before .before .if1 .left) (c .before .if2 .left), c .if3 .taken, add-one), refl)
 
--- src/read.rt:51:1
 returns-4 : tie.Need-returns-4
 returns-4 c = (rw (line-digits _ _ (c .before .before .before .before .run .ensures) (c .before .before .before .if1 .left) (c .before .if2 .left), c .if3 .left, add-one), refl)
 

@@ -1,8 +1,6 @@
+-- `run` meets its contract. The loop's invariant: the run is what was passed and the run of what is left.
 use Rattle.hexline.proofs.read.run.Statement.{statement}
 use Rattle.hexline.proofs.read.run.Tie as tie
-use Rattle.hexline.proofs.read.run.Reads as reads
-use Rattle.hexline.proofs.read.run.Lts as lts
-use Rattle.hexline.proofs.digit.digit.Reads as digit-reads
 use native.Mathlib.Omega.{arith}
 use borrow.Author.Needs.{needs}
 use Prim.Native.Nat.{_≤_, _+_, _-_, suc}
@@ -18,42 +16,34 @@ Inv-loop text i₀ i = (i ≤ length text) × (runOf text ≡ i + runOf (drop i 
 abbrev μ-loop : tie.MeasureT-loop
 μ-loop text i₀ i = length text - i
 
--- src/read.rt:25:5
 loop-holds : tie.Need-loop-holds Inv-loop μ-loop
 loop-holds c = omega arith
 
--- src/read.rt:26:18
 shared-slice-read-digit : tie.Need-shared-slice-read-digit Inv-loop μ-loop
 shared-slice-read-digit c = omega arith
 
--- src/read.rt:26:12
 digit-requires : tie.Need-digit-requires Inv-loop μ-loop
 digit-requires c κs = search needs
 
--- src/read.rt:27:13
 returns : tie.Need-returns Inv-loop μ-loop
-returns c = 
+returns c =
     let text = c .before .before .before .before .before .before .args .text .now in
     let i = c .before .before .before .before .loop .i in
     omega (arith, run-stop text i (omega arith) (sym (c .before .digit .ensures) ∙ c .if1 .taken))
 
--- src/read.rt:29:9
 add-i : tie.Need-add-i Inv-loop μ-loop
 add-i c = omega arith
 
--- src/read.rt:25:5
 loop-less : tie.Need-loop-less Inv-loop μ-loop
 loop-less c = omega arith
 
--- src/read.rt:25:5
 loop-again : tie.Need-loop-again Inv-loop μ-loop
-loop-again c = 
+loop-again c =
     let text = c .before .before .before .before .before .before .args .text .now in
     let i = c .before .before .before .before .loop .i in
     let more : runOf (drop i text) ≡ suc (runOf (drop (i + 1) text)) = rw add-one (run-more text i (omega arith) (λ e. c .if1 .left (c .before .digit .ensures ∙ e))) in
     omega arith
 
--- src/read.rt:21:1
 returns-2 : tie.Need-returns-2 Inv-loop μ-loop
 returns-2 c = omega (arith, run-end (c .before .before .before .args .text .now) (c .before .loop .i) (c .loop-test .left))
 

@@ -1,17 +1,13 @@
+-- `put_byte` meets its contract: two stores, one after the other, or none.
 use borrow.Author.Needs.{needs}
 use Rattle.hexline.proofs.write.put_byte.Statement.{statement}
 use Rattle.hexline.proofs.write.put_byte.Tie as tie
-use Rattle.hexline.proofs.write.put_byte.Reads as reads
-use Rattle.hexline.proofs.write.put_byte.Lts as lts
-use Rattle.hexline.proofs.digit.hex.Reads as hex-reads
-use Rattle.hexline.proofs.write.room.Reads as room-reads
 use native.Mathlib.Omega.{arith}
-use mathlib.Core.Path.{_≡_, refl, sym, ap, _∙_}
-use Prim.Native.Nat.{_+_, _≤_, _<_, _/_, _%_}
-use lib.ListN.{length, set, length-set}
+use mathlib.Core.Path.{sym}
+use Prim.Native.Nat.{_+_, _≤_, _<_}
+use lib.ListN.{length, length-set}
 use Rattle.hexline.specs.Writes.{pairOf}
-use Rattle.hexline.specs.Digits.{hexOf}
-use Rattle.hexline.proofs.LayLaws.{Laid, laid-none, laid-one, laid-more, laid-length, laid-is, laid-after, lay-none, after-none, room-yes, room-no}
+use Rattle.hexline.proofs.LayLaws.{laid-none, laid-one, laid-is, laid-after, lay-none, after-none, room-yes, room-no}
 
 -- there is room
 roomy : (c : tie.Else1) → c .before .before .before .args .at + 2 ≤ length (c .before .before .before .args .out .now)
@@ -21,48 +17,37 @@ roomy c = room-yes _ _ 2 (c .before .room .result) (c .before .room .ensures) (c
 short : (c : tie.Then1) → length (c .before .before .before .args .out .now) < c .before .before .before .args .at + 2
 short c = room-no _ _ 2 (c .before .room .result) (c .before .room .ensures) (c .if1 .taken)
 
-
--- src/write.rt:25:9
 room-requires : tie.Need-room-requires
 room-requires c κs = search needs
 
--- src/write.rt:26:9
 returns : tie.Need-returns
 unfolding pairOf
 returns c = (sym (after-none _ _ (pairOf (c .before .before .before .args .byte)) (short c)), sym (lay-none _ _ (pairOf (c .before .before .before .args .byte)) (short c)))
 
--- src/write.rt:28:15
 hex-requires : tie.Need-hex-requires
 hex-requires c κs = search needs
 
--- src/write.rt:28:5
 slice-write-out : tie.Need-slice-write-out
 slice-write-out c = omega (arith, roomy (c .before))
 
--- src/write.rt:29:19
 hex-requires-2 : tie.Need-hex-requires-2
 hex-requires-2 c κs = search needs
 
--- src/write.rt:29:9
 add-out : tie.Need-add-out
 add-out c = omega (arith, roomy (c .before .before))
 
--- src/write.rt:29:5
 slice-write-out-2 : tie.Need-slice-write-out-2
 slice-write-out-2 c = simp length-set (omega (arith, roomy (c .before .before)))
 
--- src/write.rt:30:5
 add-result : tie.Need-add-result
 add-result c = omega (arith, roomy (c .before .before))
 
--- src/write.rt:22:1
 same-length : tie.Need-same-length
 same-length c = search needs
 
--- src/write.rt:22:1
 returns-2 : tie.Need-returns-2
 unfolding pairOf
-returns-2 c = 
+returns-2 c =
     let a = c .before .before .before .before .before .args in
     let r = roomy (c .before .before) in
     let l = laid-one (laid-one (laid-none (a .out .now) (a .at) (omega arith)) (c .before .hex .result) (omega arith)) (c .hex2 .result) (omega arith) in

@@ -1,16 +1,13 @@
+-- `put_line` meets its contract. The loop's invariant: the digits of the bytes passed are laid.
 use Rattle.hexline.proofs.write.put_line.Statement.{statement}
 use Rattle.hexline.proofs.write.put_line.Tie as tie
-use Rattle.hexline.proofs.write.put_line.Reads as reads
-use Rattle.hexline.proofs.write.put_line.Lts as lts
-use Rattle.hexline.proofs.write.put_byte.Reads as put-byte-reads
-use Rattle.hexline.proofs.write.put_newline.Reads as put-newline-reads
 use native.Mathlib.Omega.{arith}
 use borrow.Author.Needs.{needs}
 use mathlib.Core.Path.{_≡_, refl, sym, ap, _∙_}
-use mathlib.Core.List.{List, _++_, _∷_, []}
+use mathlib.Core.List.{List, _∷_, []}
 use Rattle.hexline.specs.Digits.{newline}
 use native.Mathlib.Numerals.{add-one}
-use Prim.Native.Nat.{ℕ, _+_, _-_, _*_, _/_, _≤_, _<_}
+use Prim.Native.Nat.{ℕ, _+_, _-_, _*_, _≤_, _<_}
 use lib.ListN.{length, getD, take}
 use lib.Seq.{take-all, length-take-le}
 use Rattle.hexline.proofs.ByteLaws.{text-length}
@@ -21,60 +18,49 @@ use Rattle.hexline.proofs.LayLaws.{Laid, laid-none, laid-more, laid-len
 passed : (bytes : List ℕ) (i : ℕ) → i ≤ length bytes → length (pairsOf (take i bytes)) ≡ 2 * i
 passed bytes i h = pairs-length (take i bytes) ∙ ap (λ (n : ℕ). 2 * n) (length-take-le i bytes h)
 
-
 abbrev Inv-loop : tie.InvT-loop
 Inv-loop out₀ at bytes size count place₀ i₀ out place i = (i ≤ count) × Laid out₀ at (pairsOf (take i bytes)) out place
 
 abbrev μ-loop : tie.MeasureT-loop
 μ-loop out₀ at bytes size count place₀ i₀ out place i = count - i
 
--- src/write.rt:64:9
 returns : tie.Need-returns Inv-loop μ-loop
-returns c = 
+returns c =
     let a = c .before .before .before .args in
     let h : length (a .out .now) < a .at + length (lineText (a .bytes .now)) = omega (arith, text-length (a .bytes .now)) in
     ((sym (after-none _ _ _ h), sym (lay-none _ _ _ h)), refl)
 
--- src/write.rt:66:9
 sub-if2 : tie.Need-sub-if2 Inv-loop μ-loop
 sub-if2 c = omega arith
 
--- src/write.rt:66:9
 sub-if2-2 : tie.Need-sub-if2-2 Inv-loop μ-loop
 sub-if2-2 c = omega arith
 
--- src/write.rt:67:9
 returns-2 : tie.Need-returns-2 Inv-loop μ-loop
-returns-2 c = 
+returns-2 c =
     let a = c .before .before .before .before .args in
     let h : length (a .out .now) < a .at + length (lineText (a .bytes .now)) = omega (arith, text-length (a .bytes .now)) in
     ((sym (after-none _ _ _ h), sym (lay-none _ _ _ h)), refl)
 
--- src/write.rt:71:5
 loop-holds : tie.Need-loop-holds Inv-loop μ-loop
 unfolding pairsOf
 loop-holds c = (omega arith, laid-none _ _ (omega arith))
 
--- src/write.rt:72:20
 shared-slice-read-byte : tie.Need-shared-slice-read-byte Inv-loop μ-loop
 shared-slice-read-byte c = omega arith
 
--- src/write.rt:73:13
 put-byte-requires : tie.Need-put-byte-requires Inv-loop μ-loop
 put-byte-requires c κs = search needs
 
--- src/write.rt:75:9
 add-i : tie.Need-add-i Inv-loop μ-loop
 add-i c = omega arith
 
--- src/write.rt:71:5
 loop-less : tie.Need-loop-less Inv-loop μ-loop
 loop-less c = omega arith
 
--- src/write.rt:71:5
 loop-again : tie.Need-loop-again Inv-loop μ-loop
 unfolding pairOf
-loop-again c = 
+loop-again c =
     let a = c .before .before .before .before .before .before .before .before .before .before .before .args in
     let i = c .before .before .before .before .before .before .loop .i in
     let l = c .before .before .before .before .before .before .loop .inv .1 in
@@ -82,11 +68,9 @@ loop-again c =
     let m = laid-more l (pairOf (getD (a .bytes .now) i 0)) (q .last .0) (q .result) (omega (arith, l .ends, passed (a .bytes .now) i (omega arith))) (q .ensures .0) (q .ensures .1) in
     (omega arith, rw (add-one, pairs-more (a .bytes .now) i (omega arith)) m)
 
--- src/write.rt:77:5
 put-newline-requires : tie.Need-put-newline-requires Inv-loop μ-loop
 put-newline-requires c κs = search needs
 
--- src/write.rt:58:1
 -- what has been written where the function ends
 laid : (c : tie.After-slice-known3 Inv-loop μ-loop) → Laid (c .before .before .before .before .before .before .before .before .before .before .args .out .now) (c .before .before .before .before .before .before .before .before .before .before .args .at) (lineText (c .before .before .before .before .before .before .before .before .before .before .args .bytes .now)) (c .before .before .put-newline .last .0) (c .before .before .put-newline .result)
 unfolding lineText
@@ -101,7 +85,6 @@ laid c =
 same-length : tie.Need-same-length Inv-loop μ-loop
 same-length c = laid-length (laid c)
 
--- src/write.rt:58:1
 returns-3 : tie.Need-returns-3 Inv-loop μ-loop
 returns-3 c = ((laid-after (laid c), laid-is (laid c)), refl)
 

@@ -1,14 +1,12 @@
+-- `put_newline` meets its contract: one store, or none.
 use borrow.Author.Needs.{needs}
 use Rattle.hexline.proofs.write.put_newline.Statement.{statement}
 use Rattle.hexline.proofs.write.put_newline.Tie as tie
-use Rattle.hexline.proofs.write.put_newline.Reads as reads
-use Rattle.hexline.proofs.write.put_newline.Lts as lts
-use Rattle.hexline.proofs.write.room.Reads as room-reads
 use native.Mathlib.Omega.{arith}
-use mathlib.Core.Path.{_≡_, refl, sym, ap, _∙_}
-use Prim.Native.Nat.{_+_, _≤_, _<_, _/_, _%_}
-use lib.ListN.{length, set, length-set}
-use Rattle.hexline.proofs.LayLaws.{Laid, laid-none, laid-one, laid-more, laid-length, laid-is, laid-after, lay-none, after-none, room-yes, room-no}
+use mathlib.Core.Path.{sym}
+use Prim.Native.Nat.{_+_, _≤_, _<_}
+use lib.ListN.{length}
+use Rattle.hexline.proofs.LayLaws.{laid-none, laid-one, laid-is, laid-after, lay-none, after-none, room-yes, room-no}
 
 -- there is room
 roomy : (c : tie.Else1) → c .before .before .before .args .at + 1 ≤ length (c .before .before .before .args .out .now)
@@ -18,30 +16,23 @@ roomy c = room-yes _ _ 1 (c .before .room .result) (c .before .room .ensures) (c
 short : (c : tie.Then1) → length (c .before .before .before .args .out .now) < c .before .before .before .args .at + 1
 short c = room-no _ _ 1 (c .before .room .result) (c .before .room .ensures) (c .if1 .taken)
 
-
--- src/write.rt:50:9
 room-requires : tie.Need-room-requires
 room-requires c κs = search needs
 
--- src/write.rt:51:9
 returns : tie.Need-returns
 returns c = (sym (after-none _ _ _ (short c)), sym (lay-none _ _ _ (short c)))
 
--- src/write.rt:53:5
 slice-write-out : tie.Need-slice-write-out
 slice-write-out c = omega (arith, roomy c)
 
--- src/write.rt:54:5
 add-result : tie.Need-add-result
 add-result c = omega (arith, roomy c)
 
--- src/write.rt:47:1
 same-length : tie.Need-same-length
 same-length c = search needs
 
--- src/write.rt:47:1
 returns-2 : tie.Need-returns-2
-returns-2 c = 
+returns-2 c =
     let a = c .before .before .before .args in
     let r = roomy c in
     let l = laid-one (laid-none (a .out .now) (a .at) (omega arith)) 10 (omega arith) in

@@ -1,16 +1,13 @@
+-- `put_number` meets its contract: two bytes laid one after the other, or none.
 use borrow.Author.Needs.{needs}
 use Rattle.hexline.proofs.write.put_number.Statement.{statement}
 use Rattle.hexline.proofs.write.put_number.Tie as tie
-use Rattle.hexline.proofs.write.put_number.Reads as reads
-use Rattle.hexline.proofs.write.put_number.Lts as lts
-use Rattle.hexline.proofs.write.put_byte.Reads as put-byte-reads
-use Rattle.hexline.proofs.write.room.Reads as room-reads
 use native.Mathlib.Omega.{arith}
-use mathlib.Core.Path.{_≡_, refl, sym, ap, _∙_}
+use mathlib.Core.Path.{sym}
 use Prim.Native.Nat.{_+_, _≤_, _<_, _/_, _%_}
-use lib.ListN.{length, set, length-set}
+use lib.ListN.{length}
 use Rattle.hexline.specs.Writes.{pairOf, pairsOf, numberText}
-use Rattle.hexline.proofs.LayLaws.{Laid, laid-none, laid-one, laid-more, laid-length, laid-is, laid-after, lay-none, after-none, room-yes, room-no}
+use Rattle.hexline.proofs.LayLaws.{Laid, laid-none, laid-more, laid-is, laid-after, lay-none, after-none, room-yes, room-no}
 
 -- there is room
 roomy : (c : tie.Else1) → c .before .before .before .args .at + 4 ≤ length (c .before .before .before .args .out .now)
@@ -31,37 +28,28 @@ laid c =
     let l = laid-more (laid-none (a .out .now) (a .at) (omega arith)) (pairOf (a .number / 256)) (first .last .0) (first .result) (omega arith) (first .ensures .0) (first .ensures .1) in
     laid-more l (pairOf (a .number % 256)) (second .last .0) (second .result) (omega (arith, l .ends)) (second .ensures .0) (second .ensures .1)
 
-
--- src/write.rt:37:9
 room-requires : tie.Need-room-requires
 room-requires c κs = search needs
 
--- src/write.rt:38:9
 returns : tie.Need-returns
 unfolding numberText pairsOf pairOf
 returns c = (sym (after-none _ _ (numberText (c .before .before .before .args .number)) (short c)), sym (lay-none _ _ (numberText (c .before .before .before .args .number)) (short c)))
 
--- src/write.rt:40:16
 cast-high : tie.Need-cast-high
 cast-high c = search needs
 
--- src/write.rt:41:15
 cast-low : tie.Need-cast-low
 cast-low c = search needs
 
--- src/write.rt:42:9
 put-byte-requires : tie.Need-put-byte-requires
 put-byte-requires c κs = search needs
 
--- src/write.rt:43:5
 put-byte-requires-2 : tie.Need-put-byte-requires-2
 put-byte-requires-2 c κs = search needs
 
--- src/write.rt:34:1
 same-length : tie.Need-same-length
 same-length c = search needs
 
--- src/write.rt:34:1
 returns-2 : tie.Need-returns-2
 returns-2 c = (laid-after (laid c), laid-is (laid c))
 
