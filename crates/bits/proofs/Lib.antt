@@ -1,0 +1,5 @@
+pub mod Bits
+pub mod Laws
+pub mod Sets
+pub mod Callers
+pub mod Examples

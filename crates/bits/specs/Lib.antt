@@ -1,0 +1,4 @@
+pub mod Word
+pub mod Members
+pub mod Sets
+pub mod Lawful
