@@ -81,7 +81,7 @@ fn byte_of(high: u8, low: u8) -> u8
     h * 16 + l
 }
 
-// Byte k of the line that the text begins with; 0 past the last.
+// Byte k of the line that the text begins with; past the line's bytes it says nothing of the line.
 pub fn byte_at(text: &[u8], k: usize) -> u8
     ensures { λ r. ⌜ (r ≡ byteAt (now (text .entry)) k) × (now (text .exit) ≡ now (text .entry)) ⌝ }
 {
