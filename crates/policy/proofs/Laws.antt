@@ -1,10 +1,10 @@
 -- The laws of this crate, together: what `lawful` promises. The inverse is `Theorems.antt`'s; the others go by the cases of the reader's
 -- and the writer's answers.
 use Prim.Native.Nat.{ℕ, _+_, _<_}
-use mathlib.Core.Bool.{Bool, true, false}
+use mathlib.Core.Bool.{Bool, true, false, cond, _&&_}
 use mathlib.Core.List.{List, [], _∷_, _++_}
 use mathlib.Core.Logic.{_↔_}
-use mathlib.Core.Path.{_≡_, refl, ap, sym, _∙_}
+use mathlib.Core.Path.{_≡_, refl, ap, ap₂, sym, _∙_}
 use native.Mathlib.Omega.{arith}
 use lib.Dec.{ltb, leb, eqb}
 use lib.ListN.{length, getD, drop, List·getD-append}
@@ -27,6 +27,7 @@ use Rattle.policy.specs.declared.writer.Writing.the-variants.{Wrote, Not
 use Rattle.policy.specs.Reads.{longestText, linesOf, zeroPolicy, refusal, acceptance, policyOf, atEnd, onward, noRecord, judge, readOf}
 use Rattle.policy.specs.Writes.{textOf, known, writeOf, writtenOf}
 use Rattle.policy.specs.Lawful.{Lawful}
+use Rattle.policy.proofs.Session.{session, session-unended}
 use Rattle.policy.proofs.Theorems.{accepted-text, known-accepted, accepted-known, unknown}
 
 -- ---- a reading that is refused
@@ -80,12 +81,12 @@ write-unknown p out k = (rw k, rw k)
 
 write-short : (p : Policy) (out : List ℕ) → known p ≡ true → leb (length (textOf p)) (length out) ≡ false → (writeOf p out ≡ NotWritten NoRoom) × (writtenOf p out ≡ out)
 unfolding writeOf writtenOf
-write-short p out k f = (rw (k, f), rw (k, f))
+write-short p out k f = (rw (k, f), ap₂ (λ (a : Bool) (b : Bool). cond (a && b) (textOf p ++ drop (length (textOf p)) out) out) k f)
 
 write-done : (p : Policy) (out : List ℕ) → known p ≡ true → leb (length (textOf p)) (length out) ≡ true
     → (writeOf p out ≡ Wrote (length (textOf p))) × (writtenOf p out ≡ textOf p ++ drop (length (textOf p)) out)
 unfolding writeOf writtenOf
-write-done p out k f = (rw (k, f), rw (k, f))
+write-done p out k f = (rw (k, f), ap₂ (λ (a : Bool) (b : Bool). cond (a && b) (textOf p ++ drop (length (textOf p)) out) out) k f)
 
 -- two answers that are not one
 clash : {A : Type 0} (w : Writing) (why : Refusal) (n : ℕ) → w ≡ Wrote n → w ≡ NotWritten why → A
@@ -140,6 +141,8 @@ module _ (p : Policy) (out : List ℕ) where
 
 pub laws : Lawful
 laws = record {
+  session = session;
+  session-unended = session-unended;
   accepted-text = accepted-text;
   known-accepted = known-accepted;
   accepted-known = accepted-known;
