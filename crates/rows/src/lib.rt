@@ -1,0 +1,21 @@
+// The policy's table. It has a place for every line that a policy may have, in the order of the text, so that places rise
+// exactly as lines do; what stands there is the line's row, 0 where there is no such line.
+ghost use Rattle.rows.specs.Lawful.{Lawful};
+
+pub mod place;
+pub mod row;
+pub mod table;
+
+pub use place::ROWS;
+pub use place::frames_place;
+pub use place::place_of;
+pub use row::counts_in;
+pub use row::pack;
+pub use row::record_at;
+pub use table::row_at;
+pub use table::set_row;
+
+// No code: that a line is read off its place and its row is this function's contract.
+pub fn lawful()
+    ensures { λ _. ⌜ Lawful ⌝ }
+{}
