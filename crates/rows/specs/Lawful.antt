@@ -2,8 +2,8 @@
 -- and its place lies in the part of the table that its kind has.
 use Prim.Native.Nat.{ℕ, _+_, _≤_, _<_}
 use mathlib.Core.Path.{_≡_}
-use Rattle.records.specs.declared.kinds.Record.{Record}
-use Rattle.records.specs.declared.kinds.Record.the-variants.{Header, Partition, Group, Subject, Frame, Event, Trap, Target, Route, End}
+use Rattle.records.specs.declared.kind.Record.{Record}
+use Rattle.records.specs.declared.kind.Record.the-variants.{Header, Partition, Group, Subject, Frame, Event, Trap, Target, Route, End}
 use Rattle.rows.specs.Places.{partitionsStart, groupsStart, subjectsStart, framesStart, eventsStart, trapsStart, targetsStart, routesStart, rowCount, framesPlace, placeOf}
 use Rattle.rows.specs.Rows.{rowOf, recordAt}
 

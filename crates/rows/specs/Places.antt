@@ -1,11 +1,11 @@
--- Where the row of a line stands in the policy's table: one part of the table for each kind, in the order of the kinds, and in it
+-- Where the row of a line stands in the policy's table: one part of the table for each kind, in the order of the kind, and in it
 -- the keys from the lowest. So the places of the lines of a text rise strictly. This file and `Rows.antt` alone know places and
 -- packed rows; what a policy says is looked up through them.
 use Prim.Native.Nat.{ℕ, _+_, _*_}
 use mathlib.Core.Bool.{cond}
 use lib.Dec.{ltb}
-use Rattle.records.specs.declared.kinds.Record.{Record}
-use Rattle.records.specs.declared.kinds.Record.the-variants.{Header, Partition, Group, Subject, Frame, Event, Trap, Target, Route, End}
+use Rattle.records.specs.declared.kind.Record.{Record}
+use Rattle.records.specs.declared.kind.Record.the-variants.{Header, Partition, Group, Subject, Frame, Event, Trap, Target, Route, End}
 
 -- where the parts begin: one header, 8 partitions, 16 groups, 16 subjects, 4 majors of 4 CPUs with 8 minor frames each, and for
 -- each of the 16 subjects 16 source events, 60 traps and 32 target events; 256 host vectors

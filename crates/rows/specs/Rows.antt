@@ -3,17 +3,17 @@
 use Prim.Native.Nat.{ℕ, _+_, _-_, _*_, _/_, _%_}
 use mathlib.Core.Bool.{cond}
 use lib.Dec.{ltb}
-use Rattle.records.specs.declared.kinds.Counts.{Counts}
-use Rattle.records.specs.declared.kinds.PartitionLine.{PartitionLine}
-use Rattle.records.specs.declared.kinds.GroupLine.{GroupLine}
-use Rattle.records.specs.declared.kinds.SubjectLine.{SubjectLine}
-use Rattle.records.specs.declared.kinds.FrameLine.{FrameLine}
-use Rattle.records.specs.declared.kinds.EventLine.{EventLine}
-use Rattle.records.specs.declared.kinds.TrapLine.{TrapLine}
-use Rattle.records.specs.declared.kinds.TargetLine.{TargetLine}
-use Rattle.records.specs.declared.kinds.RouteLine.{RouteLine}
-use Rattle.records.specs.declared.kinds.Record.{Record}
-use Rattle.records.specs.declared.kinds.Record.the-variants.{Header, Partition, Group, Subject, Frame, Event, Trap, Target, Route, End}
+use Rattle.records.specs.declared.kind.Counts.{Counts}
+use Rattle.records.specs.declared.kind.PartitionLine.{PartitionLine}
+use Rattle.records.specs.declared.kind.GroupLine.{GroupLine}
+use Rattle.records.specs.declared.kind.SubjectLine.{SubjectLine}
+use Rattle.records.specs.declared.kind.FrameLine.{FrameLine}
+use Rattle.records.specs.declared.kind.EventLine.{EventLine}
+use Rattle.records.specs.declared.kind.TrapLine.{TrapLine}
+use Rattle.records.specs.declared.kind.TargetLine.{TargetLine}
+use Rattle.records.specs.declared.kind.RouteLine.{RouteLine}
+use Rattle.records.specs.declared.kind.Record.{Record}
+use Rattle.records.specs.declared.kind.Record.the-variants.{Header, Partition, Group, Subject, Frame, Event, Trap, Target, Route, End}
 use Rattle.rows.specs.Places.{partitionsStart, groupsStart, subjectsStart, framesStart, eventsStart, trapsStart, targetsStart, routesStart, rowCount}
 
 -- the row of a line; the last line of a text has none

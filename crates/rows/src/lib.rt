@@ -2,11 +2,26 @@
 // exactly as lines do; what stands there is the line's row, 0 where there is no such line.
 ghost use Rattle.rows.specs.Lawful.{Lawful};
 
+pub mod lookup;
 pub mod place;
 pub mod row;
 pub mod table;
 
+pub use lookup::counts_of;
+pub use lookup::cpu_of;
+pub use lookup::default_of;
+pub use lookup::group_given;
+pub use lookup::group_of;
+pub use lookup::is_framed;
+pub use lookup::length_at;
+pub use lookup::partition_given;
+pub use lookup::partition_of;
+pub use lookup::row_given;
+pub use lookup::subject_given;
+pub use place::GROUPS;
+pub use place::PARTITIONS;
 pub use place::ROWS;
+pub use place::SUBJECTS;
 pub use place::frames_place;
 pub use place::place_of;
 pub use row::counts_in;

@@ -1,0 +1,73 @@
+// Whether some accepted text gives a policy: its lines, one after the other, are accepted and fill the same table.
+ghost use mathlib.Core.Path.{_≡_};
+ghost use Rattle.policy.specs.Writes.{known};
+use crate::judge::Progress;
+use crate::judge::judge;
+use crate::refusal::Verdict;
+use crate::value::Policy;
+use records::Record;
+use records::kind_of;
+use rows::ROWS;
+use rows::pack;
+use rows::place_of;
+use rows::record_at;
+use rows::row_at;
+use rows::set_row;
+
+// Whether two tables hold the same numbers.
+fn same_rows(a: &[u64], b: &[u64]) -> bool {
+    if a.len() != b.len() {
+        return false;
+    }
+    let mut i = 0;
+    while i < a.len() {
+        if a[i] != b[i] {
+            return false;
+        }
+        i += 1;
+    }
+    true
+}
+
+// The same of a table.
+pub fn known_rows(given: &[u64]) -> bool {
+    let mut rows = [0u64; 2153];
+    let mut done = Progress {
+        kind: 0,
+        next: 0,
+        lines: 0,
+    };
+    let mut i: usize = 0;
+    while i < ROWS {
+        let row = row_at(given, i);
+        if row != 0 {
+            let rec = record_at(i, row);
+            let verdict = judge(&rows, done, rec);
+            let Verdict::Accepted = verdict else {
+                return false;
+            };
+            let place = place_of(done.next, rec);
+            let packed = pack(rec);
+            set_row(&mut rows, place, packed);
+            done = Progress {
+                kind: kind_of(rec),
+                next: place + 1,
+                lines: done.lines + 1,
+            };
+        }
+        i += 1;
+    }
+    let end = Record::End { count: done.lines };
+    let verdict = judge(&rows, done, end);
+    let Verdict::Accepted = verdict else {
+        return false;
+    };
+    same_rows(&rows, given)
+}
+
+pub fn known(p: Policy) -> bool
+    ensures { λ r. ⌜ r ≡ known p ⌝ }
+{
+    let rows = p.rows;
+    known_rows(&rows)
+}

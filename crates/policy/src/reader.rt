@@ -1,0 +1,85 @@
+// A text, line by line: the first faulty line decides.
+ghost use mathlib.Core.Path.{_≡_};
+ghost use Rattle.policy.specs.Reads.{refusal, readOf};
+use crate::judge::Progress;
+use crate::judge::judge;
+use crate::ranges::END;
+use crate::refusal::Refusal;
+use crate::refusal::Verdict;
+use crate::value::Policy;
+use records::RecordLine;
+use records::kind_of;
+use records::read_record;
+use rows::pack;
+use rows::place_of;
+use rows::set_row;
+
+const LONGEST_TEXT: usize = 32768;
+
+// The verdict, and beside it the policy: all zeros where the text is refused.
+pub struct Reading {
+    pub verdict: Verdict,
+    pub policy: Policy,
+}
+
+fn refused(why: Refusal) -> Reading
+    ensures { λ r. ⌜ r ≡ refusal why ⌝ }
+{
+    let policy = Policy::zero();
+    Reading {
+        verdict: Verdict::Refused(why),
+        policy,
+    }
+}
+
+// The refusal of a line that is no record.
+fn no_record(line: RecordLine, number: u16) -> Reading {
+    match line {
+        RecordLine::WrongKind => refused(Refusal::WrongKind(number)),
+        _ => refused(Refusal::IllFormed(number)),
+    }
+}
+
+pub fn read(text: &[u8]) -> Reading
+    ensures { λ r. ⌜ (r ≡ readOf (now (text .entry))) × (now (text .exit) ≡ now (text .entry)) ⌝ }
+{
+    let size = text.len();
+    if LONGEST_TEXT < size {
+        return refused(Refusal::TooLong);
+    }
+    let mut rows = [0u64; 2153];
+    let mut done = Progress {
+        kind: 0,
+        next: 0,
+        lines: 0,
+    };
+    let mut at = 0;
+    while at < size {
+        let line = read_record(&text[at..]);
+        let RecordLine::Got(rec, used) = line else {
+            return no_record(line, done.lines + 1);
+        };
+        let verdict = judge(&rows, done, rec);
+        let Verdict::Accepted = verdict else {
+            let policy = Policy::zero();
+            return Reading { verdict, policy };
+        };
+        let place = place_of(done.next, rec);
+        let row = pack(rec);
+        set_row(&mut rows, place, row);
+        done = Progress {
+            kind: kind_of(rec),
+            next: place + 1,
+            lines: done.lines + 1,
+        };
+        at += used;
+    }
+    if done.kind != END {
+        return refused(Refusal::WrongKind(done.lines + 1));
+    }
+    let policy = Policy { rows };
+    Reading {
+        verdict: Verdict::Accepted,
+        policy,
+    }
+}

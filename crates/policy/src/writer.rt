@@ -1,0 +1,82 @@
+// A policy's text, into a lent buffer: known first, then the room, then the lines.
+ghost use mathlib.Core.Path.{_≡_};
+ghost use Rattle.policy.specs.Writes.{writeOf, writtenOf};
+use crate::known::known_rows;
+use crate::refusal::Refusal;
+use crate::value::Policy;
+use records::Record;
+use records::put_record;
+use records::record_size;
+use rows::ROWS;
+use rows::record_at;
+use rows::row_at;
+
+pub enum Writing {
+    // The length of the text.
+    Wrote(usize),
+    NotWritten(Refusal),
+}
+
+// How many lines a table has, and how many bytes they take.
+pub struct Size {
+    pub lines: u16,
+    pub bytes: usize,
+}
+
+// A line's bytes: two digits a byte, and a newline.
+fn line_size(rec: Record) -> usize {
+    let size = record_size(rec);
+    2 * size + 1
+}
+
+fn text_size(rows: &[u64]) -> Size {
+    let mut lines: u16 = 0;
+    let mut bytes: usize = 0;
+    let mut i: usize = 0;
+    while i < ROWS {
+        let row = row_at(rows, i);
+        if row != 0 {
+            let rec = record_at(i, row);
+            bytes += line_size(rec);
+            lines += 1;
+        }
+        i += 1;
+    }
+    let end = line_size(Record::End { count: lines });
+    Size {
+        lines,
+        bytes: bytes + end,
+    }
+}
+
+fn put_lines(out: &mut [u8], rows: &[u64]) -> usize {
+    let mut at: usize = 0;
+    let mut i: usize = 0;
+    while i < ROWS {
+        let row = row_at(rows, i);
+        if row != 0 {
+            let rec = record_at(i, row);
+            let next = put_record(out, at, rec);
+            at = next;
+        }
+        i += 1;
+    }
+    at
+}
+
+pub fn write(p: Policy, out: &mut [u8]) -> Writing
+    ensures { λ r. ⌜ (r ≡ writeOf p (now (out .entry))) × (now (out .exit) ≡ writtenOf p (now (out .entry))) ⌝ }
+{
+    let rows = p.rows;
+    if !known_rows(&rows) {
+        return Writing::NotWritten(Refusal::NotAPolicy);
+    }
+    let size = text_size(&rows);
+    if out.len() < size.bytes {
+        return Writing::NotWritten(Refusal::NoRoom);
+    }
+    let at = put_lines(out, &rows);
+    let end = Record::End { count: size.lines };
+    let length = put_record(out, at, end);
+    Writing::Wrote(length)
+}

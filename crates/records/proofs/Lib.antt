@@ -1,0 +1,4 @@
+pub mod KindLaws
+pub mod LineLaws
+pub mod Laws
+pub mod Examples

@@ -1,0 +1,3 @@
+pub mod Kinds
+pub mod RecordLines
+pub mod Lawful
