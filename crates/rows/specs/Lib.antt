@@ -1,6 +1,6 @@
 pub mod Places
 pub mod Rows
 pub mod Table
-pub mod Lines
 pub mod Lookups
 pub mod Lawful
+pub mod Lines

@@ -1,6 +1,6 @@
 -- The table of some lines, and the lines of a table. Lines come latest first, as they have been read. The line before stands right
 -- before `nextIn`; each line's row stands at its place, over what was there.
-use Prim.Native.Nat.{ℕ, zero, suc}
+use Prim.Native.Nat.{ℕ, zero, suc, _≤_}
 use mathlib.Core.Bool.{cond}
 use mathlib.Core.List.{List, [], _∷_, _++_}
 use lib.ListN.{getD}
@@ -9,6 +9,7 @@ use Rattle.records.specs.declared.kind.Record.{Record}
 use Rattle.rows.specs.Places.{rowCount, placeOf}
 use Rattle.rows.specs.Rows.{rowOf, recordAt}
 use Rattle.rows.specs.Table.{table}
+use Rattle.rows.specs.Lawful.{Fits, Room}
 
 -- the place after the latest line's
 unfoldable pub nextIn : List Record → ℕ
@@ -36,3 +37,13 @@ linesBelow rows (suc place) = linesBelow rows place ++ lineAt rows place
 -- all lines of a table, in the text's order
 unfoldable pub linesIn : List ℕ → List Record
 linesIn rows = linesBelow rows rowCount
+
+-- lines that come latest first, in the text's order
+unfoldable pub inOrder : List Record → List Record
+inOrder [] = []
+inOrder (r ∷ earlier) = inOrder earlier ++ (r ∷ [])
+
+-- each line has a place, which is not before the next one of the lines before it: places rise
+unfoldable pub Placed : List Record → Type 0
+Placed [] = Unit
+Placed (r ∷ earlier) = Placed earlier × (Fits r × (Room (nextIn earlier) r × (nextIn earlier ≤ placeOf (nextIn earlier) r)))

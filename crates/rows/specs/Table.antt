@@ -1,7 +1,8 @@
--- The values of a function from a number on, so many of them.
+-- A table: the values of a function at the numbers from a first one on.
 use Prim.Native.Nat.{ℕ, zero, suc}
 use mathlib.Core.List.{List, [], _∷_}
 
+-- the values at `size` numbers, from `first` on
 unfoldable pub table : ℕ → ℕ → (ℕ → ℕ) → List ℕ
-table zero from f = []
-table (suc n) from f = f from ∷ table n (suc from) f
+table zero first f = []
+table (suc size) first f = f first ∷ table size (suc first) f

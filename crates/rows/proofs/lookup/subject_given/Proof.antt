@@ -1,0 +1,22 @@
+-- `subject_given` meets its contract: its row is not 0.
+use borrow.Author.Needs.{needs}
+use Rattle.rows.proofs.lookup.subject_given.Statement.{statement}
+use Rattle.rows.proofs.lookup.subject_given.Tie as tie
+use Rattle.rows.proofs.lookup.subject_given.Reads as reads
+use Rattle.rows.proofs.lookup.subject_given.Lts as lts
+use Rattle.rows.proofs.table.row_at.Reads as row-at-reads
+use mathlib.Core.Path.{refl, ap, _∙_}
+use Rattle.rows.specs.Lookups.{given, subjectGiven}
+
+add-place : tie.Need-add-place
+add-place c = search needs
+
+row-at-requires : tie.Need-row-at-requires
+row-at-requires c κs = search needs
+
+returns : tie.Need-returns
+unfolding subjectGiven given
+returns c = (rw (c .row-at .ensures .0), refl)
+
+pub subject-given-spec : {M : Type 1} → statement M
+subject-given-spec = tie.close (tie.spec add-place row-at-requires returns)
