@@ -1,7 +1,2 @@
-pub mod Refusals
-pub mod Said
-pub mod Rules
-pub mod Plan
-pub mod Tables
 pub mod Reads
 pub mod Writes

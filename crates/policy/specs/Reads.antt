@@ -10,14 +10,14 @@ use Rattle.records.specs.declared.read.RecordLine.the-variants.{Got, IllFormed 
 use Rattle.records.specs.RecordLines.{recordLine}
 use Rattle.rows.specs.Places.{rowCount}
 use Rattle.rows.specs.Lines.{tableOf}
-use Rattle.policy.specs.declared.refusal.Refusal.{Refusal}
-use Rattle.policy.specs.declared.refusal.Refusal.the-variants.{TooLong, IllFormed, WrongKind}
-use Rattle.policy.specs.declared.refusal.Verdict.{Verdict}
-use Rattle.policy.specs.declared.refusal.Verdict.the-variants.{Accepted, Refused}
+use Rattle.rules.specs.declared.refusal.Refusal.{Refusal}
+use Rattle.rules.specs.declared.refusal.Refusal.the-variants.{TooLong, IllFormed, WrongKind}
+use Rattle.rules.specs.declared.refusal.Verdict.{Verdict}
+use Rattle.rules.specs.declared.refusal.Verdict.the-variants.{Accepted, Refused}
 use Rattle.policy.specs.declared.value.Policy.{Policy}
 use Rattle.policy.specs.declared.reader.Reading.{Reading}
-use Rattle.policy.specs.Said.{lastKind}
-use Rattle.policy.specs.Rules.{verdict}
+use Rattle.rules.specs.Said.{lastKind}
+use Rattle.rules.specs.Rules.{verdict}
 
 -- "text over 32,768 bytes"
 abbrev pub longestText : ℕ

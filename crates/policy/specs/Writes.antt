@@ -10,9 +10,9 @@ use Rattle.records.specs.declared.kind.Record.{Record}
 use Rattle.records.specs.declared.kind.Record.the-variants.{End}
 use Rattle.records.specs.Kinds.{bytesOf}
 use Rattle.rows.specs.Lines.{linesIn}
-use Rattle.policy.specs.declared.refusal.Refusal.the-variants.{NotAPolicy, NoRoom}
-use Rattle.policy.specs.declared.refusal.Verdict.{Verdict}
-use Rattle.policy.specs.declared.refusal.Verdict.the-variants.{Accepted, Refused}
+use Rattle.rules.specs.declared.refusal.Refusal.the-variants.{NotAPolicy, NoRoom}
+use Rattle.rules.specs.declared.refusal.Verdict.{Verdict}
+use Rattle.rules.specs.declared.refusal.Verdict.the-variants.{Accepted, Refused}
 use Rattle.policy.specs.declared.value.Policy.{Policy}
 use Rattle.policy.specs.declared.reader.Reading.{Reading}
 use Rattle.policy.specs.declared.writer.Writing.{Writing}

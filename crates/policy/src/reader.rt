@@ -1,11 +1,6 @@
 // A text, line by line: the first faulty line decides.
 ghost use mathlib.Core.Path.{_≡_};
 ghost use Rattle.policy.specs.Reads.{refusal, readOf};
-use crate::judge::Progress;
-use crate::judge::judge;
-use crate::ranges::END;
-use crate::refusal::Refusal;
-use crate::refusal::Verdict;
 use crate::value::Policy;
 use records::RecordLine;
 use records::kind_of;
@@ -13,6 +8,11 @@ use records::read_record;
 use rows::pack;
 use rows::place_of;
 use rows::set_row;
+use rules::END;
+use rules::Progress;
+use rules::Refusal;
+use rules::Verdict;
+use rules::verdict_of;
 
 const LONGEST_TEXT: usize = 32768;
 
@@ -55,11 +55,12 @@ pub fn read(text: &[u8]) -> Reading
     };
     let mut at = 0;
     while at < size {
+        let number = done.lines + 1;
         let line = read_record(&text[at..]);
         let RecordLine::Got(rec, used) = line else {
-            return no_record(line, done.lines + 1);
+            return no_record(line, number);
         };
-        let verdict = judge(&rows, done, rec);
+        let verdict = verdict_of(&rows, done, number, rec);
         let Verdict::Accepted = verdict else {
             let policy = Policy::zero();
             return Reading { verdict, policy };
@@ -70,7 +71,7 @@ pub fn read(text: &[u8]) -> Reading
         done = Progress {
             kind: kind_of(rec),
             next: place + 1,
-            lines: done.lines + 1,
+            lines: number,
         };
         at += used;
     }

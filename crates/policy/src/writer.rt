@@ -1,8 +1,7 @@
 // A policy's text, into a lent buffer: known first, then the room, then the lines.
 ghost use mathlib.Core.Path.{_≡_};
 ghost use Rattle.policy.specs.Writes.{writeOf, writtenOf};
-use crate::known::known_rows;
-use crate::refusal::Refusal;
+use crate::own_text::known_rows;
 use crate::value::Policy;
 use records::Record;
 use records::put_record;
@@ -10,6 +9,7 @@ use records::record_size;
 use rows::ROWS;
 use rows::record_at;
 use rows::row_at;
+use rules::Refusal;
 
 pub enum Writing {
     // The length of the text.

@@ -3,10 +3,10 @@
 use hexline::put_byte;
 use hexline::put_number;
 use policy::Reading;
-use policy::Verdict;
 use policy::Writing;
 use policy::read;
 use policy::write;
+use rules::Verdict;
 
 const MOST_CASES: usize = 100000;
 

@@ -113,7 +113,7 @@ one-more r e p h =
     let here : getD (tableOf (r ∷ e)) at 0 ≡ rowOf r = get-row (r ∷ e) at inside ∙ row-here r e in
     ap₂ (λ (x : List Record) (y : List Record). x ++ y)
     (below-same (tableOf (r ∷ e)) (tableOf e) at (λ i l.
-      get-row (r ∷ e) i (omega arith) ∙ row-other r e i (λ q. omega arith) ∙ sym (get-row e i (omega arith)))
+    get-row (r ∷ e) i (omega arith) ∙ row-other r e i (λ q. omega arith) ∙ sym (get-row e i (omega arith)))
     ∙ ap (linesBelow (tableOf e)) rest
     ∙ below-empty (tableOf e) (nextIn e) (at - nextIn e) (λ i l m. get-row e i (omega arith) ∙ empty-from e (p .0) i l)
     ∙ h)

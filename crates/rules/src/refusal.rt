@@ -1,6 +1,6 @@
 // The refusals of document 01, one case for each number; the line is counted from 1.
 ghost use mathlib.Core.Path.{_≡_};
-ghost use Rattle.policy.specs.Refusals.{numberOf, lineOf};
+ghost use Rattle.rules.specs.Refusals.{numberOf, lineOf};
 
 pub enum Refusal {
     // P0: no accepted text gives the policy.

@@ -1,8 +1,7 @@
 // A line's verdict, by the table that the lines so far have filled: in a line, the smallest number.
 ghost use mathlib.Core.Path.{_≡_};
-ghost use Prim.Native.Nat.{_<_};
-ghost use Rattle.policy.specs.Rules.{judged};
-ghost use Rattle.policy.specs.Tables.{saidBy, behind};
+ghost use Rattle.rules.specs.Rules.{judged};
+ghost use Rattle.rules.specs.Tables.{saidBy, behind};
 use crate::ends::is_incomplete;
 use crate::ends::is_uneven;
 use crate::misplaced::is_misplaced;
@@ -36,11 +35,10 @@ fn is_behind(next: usize, rec: Record) -> bool
     }
 }
 
-pub(crate) fn judge(rows: &[u64], done: Progress, rec: Record) -> Verdict
-    requires { ⌜ done .lines < 65535 ⌝ }
-    ensures { λ r. ⌜ r ≡ judged (saidBy (now (rows .entry))) (done .kind) (done .lines) (behind (done .next) rec) rec ⌝ }
+// What a line gets, that has a number, after so many lines.
+pub fn verdict_of(rows: &[u64], done: Progress, line: u16, rec: Record) -> Verdict
+    ensures { λ r. ⌜ (r ≡ judged (saidBy (now (rows .entry))) (done .kind) (done .lines) line (behind (done .next) rec) rec) × (now (rows .exit) ≡ now (rows .entry)) ⌝ }
 {
-    let line = done.lines + 1;
     let kind = kind_of(rec);
     if wrong_kind(done.kind, kind) {
         return Verdict::Refused(Refusal::WrongKind(line));
@@ -62,16 +60,4 @@ pub(crate) fn judge(rows: &[u64], done: Progress, rec: Record) -> Verdict
         return Verdict::Refused(Refusal::Uneven(line));
     }
     Verdict::Accepted
-}
-
-// How far it has come with one line more, whose row stands at a place.
-pub(crate) fn after(done: Progress, kind: u8, place: usize) -> Progress
-    requires { ⌜ done .lines < 65535 ⌝ }
-    requires { ⌜ place < 65535 ⌝ }
-{
-    Progress {
-        kind,
-        next: place + 1,
-        lines: done.lines + 1,
-    }
 }

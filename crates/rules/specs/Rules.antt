@@ -18,11 +18,11 @@ use Rattle.records.specs.declared.kind.RouteLine.{RouteLine}
 use Rattle.records.specs.declared.kind.Record.{Record}
 use Rattle.records.specs.declared.kind.Record.the-variants.{Header, Partition, Group, Subject, Frame, Event, Trap, Target, Route, End}
 use Rattle.records.specs.Kinds.{kindOf}
-use Rattle.policy.specs.declared.refusal.Refusal.{Refusal}
-use Rattle.policy.specs.declared.refusal.Refusal.the-variants.{WrongKind, OutOfRange, OutOfOrder, Incomplete, Misplaced, Uneven}
-use Rattle.policy.specs.declared.refusal.Verdict.{Verdict}
-use Rattle.policy.specs.declared.refusal.Verdict.the-variants.{Accepted, Refused}
-use Rattle.policy.specs.Said.{Said, saidIn, lastKind, framesOf}
+use Rattle.rules.specs.declared.refusal.Refusal.{Refusal}
+use Rattle.rules.specs.declared.refusal.Refusal.the-variants.{WrongKind, OutOfRange, OutOfOrder, Incomplete, Misplaced, Uneven}
+use Rattle.rules.specs.declared.refusal.Verdict.{Verdict}
+use Rattle.rules.specs.declared.refusal.Verdict.the-variants.{Accepted, Refused}
+use Rattle.rules.specs.Said.{Said, saidIn, lastKind, framesOf}
 
 -- "FF means none only in the fields that say so"
 abbrev pub none : ℕ
@@ -275,18 +275,19 @@ abbrev pub first : List (Bool × Refusal) → Verdict
 first [] = Accepted
 first (rule ∷ rules) = cond (rule .0) (Refused (rule .1)) (first rules)
 
--- what a line gets, by what lines say, the kind of the line before, how many lines were read, and whether its key is out of order
-unfoldable pub judged : Said → ℕ → ℕ → Bool → Record → Verdict
-judged said last lines unordered r =
+-- what a line gets, by what lines say, the kind of the line before, how many lines were read, its own number, and whether its
+-- key is out of order
+unfoldable pub judged : Said → ℕ → ℕ → ℕ → Bool → Record → Verdict
+judged said last lines line unordered r =
     first
-    ((wrongKind last (kindOf r), WrongKind (lines + 1))
-    ∷ (not (inRange (said .counts) r), OutOfRange (lines + 1))
-    ∷ (unordered, OutOfOrder (lines + 1))
-    ∷ (incomplete said lines r, Incomplete (lines + 1))
-    ∷ (misplaced said r, Misplaced (lines + 1))
-    ∷ (uneven said r, Uneven (lines + 1))
+    ((wrongKind last (kindOf r), WrongKind line)
+    ∷ (not (inRange (said .counts) r), OutOfRange line)
+    ∷ (unordered, OutOfOrder line)
+    ∷ (incomplete said lines r, Incomplete line)
+    ∷ (misplaced said r, Misplaced line)
+    ∷ (uneven said r, Uneven line)
     ∷ [])
 
 -- what a line gets after the earlier ones
 unfoldable pub verdict : List Record → Record → Verdict
-verdict earlier r = judged (saidIn earlier) (lastKind earlier) (length earlier) (outOfOrder earlier r) r
+verdict earlier r = judged (saidIn earlier) (lastKind earlier) (length earlier) (length earlier + 1) (outOfOrder earlier r) r

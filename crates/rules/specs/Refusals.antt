@@ -1,7 +1,7 @@
 -- The numbers of document 01's "Policy refusals", and the line that each is given with: "0 for P0, P1 and P9".
 use Prim.Native.Nat.{ℕ}
-use Rattle.policy.specs.declared.refusal.Refusal.{Refusal}
-use Rattle.policy.specs.declared.refusal.Refusal.the-variants.{NotAPolicy, TooLong, IllFormed, WrongKind, OutOfRange, OutOfOrder, Incomplete, Misplaced, Uneven, NoRoom}
+use Rattle.rules.specs.declared.refusal.Refusal.{Refusal}
+use Rattle.rules.specs.declared.refusal.Refusal.the-variants.{NotAPolicy, TooLong, IllFormed, WrongKind, OutOfRange, OutOfOrder, Incomplete, Misplaced, Uneven, NoRoom}
 
 unfoldable pub numberOf : Refusal → ℕ
 numberOf NotAPolicy = 0

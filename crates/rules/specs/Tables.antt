@@ -1,15 +1,15 @@
 -- What the table says, which the code keeps of the lines read so far. No public contract cites this; `proofs/Tied.antt` says that
 -- it is what the lines say.
 use Prim.Native.Nat.{ℕ, _+_}
-use mathlib.Core.Bool.{Bool}
+use mathlib.Core.Bool.{Bool, false}
 use mathlib.Core.List.{List}
 use lib.Dec.{ltb, leb}
 use Rattle.records.specs.declared.kind.Record.{Record}
 use Rattle.records.specs.declared.kind.Record.the-variants.{Header, Partition, Group, Subject, Frame, Event, Trap, Target, Route, End}
 use Rattle.rows.specs.Places.{framesPlace, placeOf}
 use Rattle.rows.specs.Lookups.{countsOf, partitionGiven, cpuOf, groupGiven, partitionOf, subjectGiven, groupOf, defaultOf, framed}
-use Rattle.policy.specs.Plan.{periodBy}
-use Rattle.policy.specs.Said.{Said}
+use Rattle.rules.specs.Plan.{periodBy}
+use Rattle.rules.specs.Said.{Said}
 
 -- what a table says
 unfoldable pub saidBy : List ℕ → Said

@@ -1,7 +1,7 @@
 // The plan check: the lengths of the minor frames of one CPU, added.
 ghost use mathlib.Core.Path.{_≡_};
 ghost use Prim.Native.Nat.{min};
-ghost use Rattle.policy.specs.Plan.{mostFrames, planLength, lengthsAt, periodBy};
+ghost use Rattle.rules.specs.Plan.{mostFrames, planLength, lengthsAt, periodBy};
 use rows::length_at;
 
 // At most so many minor frames each.

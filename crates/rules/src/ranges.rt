@@ -1,6 +1,6 @@
 // P3 and P4: the order of the kinds, and the ranges of the fields, the header's counts being the ranges for later lines.
 ghost use mathlib.Core.Path.{_≡_};
-ghost use Rattle.policy.specs.Rules.{wrongKind, countsInRange, partitionInRange, groupInRange, subjectInRange, frameInRange, eventInRange, trapInRange, targetInRange, routable, routeInRange, inRange};
+ghost use Rattle.rules.specs.Rules.{wrongKind, countsInRange, partitionInRange, groupInRange, subjectInRange, frameInRange, eventInRange, trapInRange, targetInRange, routable, routeInRange, inRange};
 use records::Counts;
 use records::EventLine;
 use records::FrameLine;

@@ -1,9 +1,6 @@
 // Whether some accepted text gives a policy: its lines, one after the other, are accepted and fill the same table.
 ghost use mathlib.Core.Path.{_≡_};
 ghost use Rattle.policy.specs.Writes.{known};
-use crate::judge::Progress;
-use crate::judge::judge;
-use crate::refusal::Verdict;
 use crate::value::Policy;
 use records::Record;
 use records::kind_of;
@@ -13,6 +10,9 @@ use rows::place_of;
 use rows::record_at;
 use rows::row_at;
 use rows::set_row;
+use rules::Progress;
+use rules::Verdict;
+use rules::verdict_of;
 
 // Whether two tables hold the same numbers.
 fn same_rows(a: &[u64], b: &[u64]) -> bool {
@@ -42,7 +42,8 @@ pub fn known_rows(given: &[u64]) -> bool {
         let row = row_at(given, i);
         if row != 0 {
             let rec = record_at(i, row);
-            let verdict = judge(&rows, done, rec);
+            let number = done.lines + 1;
+            let verdict = verdict_of(&rows, done, number, rec);
             let Verdict::Accepted = verdict else {
                 return false;
             };
@@ -52,13 +53,13 @@ pub fn known_rows(given: &[u64]) -> bool {
             done = Progress {
                 kind: kind_of(rec),
                 next: place + 1,
-                lines: done.lines + 1,
+                lines: number,
             };
         }
         i += 1;
     }
     let end = Record::End { count: done.lines };
-    let verdict = judge(&rows, done, end);
+    let verdict = verdict_of(&rows, done, 0, end);
     let Verdict::Accepted = verdict else {
         return false;
     };

@@ -1,12 +1,12 @@
 // P6 and P8, at 0A: everything given and used, and the CPUs of a major with one sum.
 ghost use mathlib.Core.Path.{_≡_};
-ghost use Prim.Native.Nat.{_+_};
+ghost use Prim.Native.Nat.{_+_, _<_};
 ghost use lib.Dec.{eqb};
 ghost use mathlib.Core.Bool.{_&&_};
 ghost use Rattle.rows.specs.Lookups.{given, framed, partitionGiven, groupGiven, subjectGiven};
-ghost use Rattle.policy.specs.Rules.{allBelow, hasGroup, hasSubject, anyBelow, allGiven, allUsed, allFramed, complete, incomplete, even, uneven};
-ghost use Rattle.policy.specs.Plan.{periodBy};
-ghost use Rattle.policy.specs.Tables.{saidBy};
+ghost use Rattle.rules.specs.Rules.{allBelow, hasGroup, hasSubject, anyBelow, allGiven, allUsed, allFramed, complete, incomplete, even, uneven};
+ghost use Rattle.rules.specs.Plan.{periodBy};
+ghost use Rattle.rules.specs.Tables.{saidBy};
 ghost use Rattle.rows.specs.Lookups.{partitionOf, groupOf};
 use crate::plan::period;
 use records::Counts;

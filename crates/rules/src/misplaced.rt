@@ -1,7 +1,7 @@
 // P7: what a line names, and what an event's fields may be together.
 ghost use mathlib.Core.Path.{_≡_};
-ghost use Rattle.policy.specs.Rules.{hasTarget, unknownSubject, wrongIrqLine, wrongHandover, halfTarget, wrongTarget, cpuOfSubject, wrongKick, eventMisplaced, frameMisplaced, trapMisplaced, misplaced};
-ghost use Rattle.policy.specs.Tables.{saidBy};
+ghost use Rattle.rules.specs.Rules.{hasTarget, unknownSubject, wrongIrqLine, wrongHandover, halfTarget, wrongTarget, cpuOfSubject, wrongKick, eventMisplaced, frameMisplaced, trapMisplaced, misplaced};
+ghost use Rattle.rules.specs.Tables.{saidBy};
 use crate::ranges::NONE;
 use records::EventLine;
 use records::FrameLine;

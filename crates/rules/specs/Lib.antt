@@ -1,0 +1,5 @@
+pub mod Refusals
+pub mod Said
+pub mod Rules
+pub mod Plan
+pub mod Tables
