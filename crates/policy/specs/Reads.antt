@@ -1,12 +1,12 @@
 -- "Each line is read as the part of the text that begins there." "The first faulty line decides." What a text is read as.
 use Prim.Native.Nat.{ℕ, zero, suc, _+_}
-use mathlib.Core.Bool.{Bool, cond}
+use mathlib.Core.Bool.{cond}
 use mathlib.Core.List.{List, [], _∷_}
 use lib.ListN.{length, drop, replicate}
 use lib.Dec.{ltb, eqb}
 use Rattle.records.specs.declared.kind.Record.{Record}
 use Rattle.records.specs.declared.read.RecordLine.{RecordLine}
-use Rattle.records.specs.declared.read.RecordLine.the-variants.{Got, IllFormed as IllFormedLine, WrongKind as WrongKindLine}
+use Rattle.records.specs.declared.read.RecordLine.the-variants.{Got}
 use Rattle.records.specs.RecordLines.{recordLine}
 use Rattle.rows.specs.Places.{rowCount}
 use Rattle.rows.specs.Lines.{tableOf}

@@ -1,6 +1,6 @@
 -- What a policy is written as: its lines in the text's order, and the count of them. A policy is known where its own text is
 -- accepted and gives it back. The writer answers "P0 before P9", and "a refused writing changes no byte".
-use Prim.Native.Nat.{ℕ, zero, suc}
+use Prim.Native.Nat.{ℕ}
 use mathlib.Core.Bool.{Bool, true, false, cond, _&&_}
 use mathlib.Core.List.{List, [], _∷_, _++_}
 use lib.ListN.{length, drop}

@@ -1,23 +1,20 @@
 -- The table of lines whose places rise, and the lines of that table: the same lines, in the text's order. By the latest line: below
 -- its place the table is that of the lines before it, from there on it was empty.
 use Prim.Native.Nat.{ℕ, zero, suc, _+_, _-_, _≤_, _<_}
-use mathlib.Core.Bool.{Bool, true, false, cond}
+use mathlib.Core.Bool.{cond}
 use mathlib.Core.List.{List, [], _∷_, _++_, append-nil}
 use mathlib.Core.Path.{_≡_, refl, ap, ap₂, sym, _∙_}
 use native.Mathlib.Omega.{arith}
-use native.Mathlib.Decide.{decLt}
 use lib.Dec.{eqb}
-use lib.ListN.{length, getD, set}
-use lib.Seq.{set-out}
+use lib.ListN.{length, getD}
 use borrow.Author.Tests.{eq-eqb, ne-eqb}
 use Rattle.records.specs.declared.kind.Record.{Record}
 use Rattle.records.specs.declared.kind.Record.the-variants.{Header, Partition, Group, Subject, Frame, Event, Trap, Target, Route, End}
 use Rattle.rows.specs.Places.{rowCount, placeOf}
 use Rattle.rows.specs.Rows.{rowOf, recordAt}
-use Rattle.rows.specs.Table.{table}
-use Rattle.rows.specs.Lawful.{Fits, Room, partEnd}
+use Rattle.rows.specs.Lawful.{partEnd}
 use Rattle.rows.specs.Lines.{nextIn, rowIn, tableOf, lineAt, linesBelow, linesIn, inOrder, Placed}
-use Rattle.rows.proofs.TableLaws.{get-set, get-table, table-is}
+use Rattle.rows.proofs.TableLaws.{get-table, table-is}
 use Rattle.rows.proofs.PlaceLaws.{below}
 use Rattle.rows.proofs.RowLaws.{back, some}
 

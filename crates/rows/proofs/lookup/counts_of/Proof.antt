@@ -2,10 +2,6 @@
 use borrow.Author.Needs.{needs}
 use Rattle.rows.proofs.lookup.counts_of.Statement.{statement}
 use Rattle.rows.proofs.lookup.counts_of.Tie as tie
-use Rattle.rows.proofs.lookup.counts_of.Reads as reads
-use Rattle.rows.proofs.lookup.counts_of.Lts as lts
-use Rattle.rows.proofs.row.counts_in.Reads as counts-in-reads
-use Rattle.rows.proofs.table.row_at.Reads as row-at-reads
 use mathlib.Core.Path.{refl, ap, _∙_}
 use Rattle.rows.specs.Lookups.{countsOf}
 use Rattle.rows.specs.Rows.{countsIn}

@@ -2,10 +2,7 @@
 use borrow.Author.Needs.{needs}
 use Rattle.rows.proofs.lookup.default_of.Statement.{statement}
 use Rattle.rows.proofs.lookup.default_of.Tie as tie
-use Rattle.rows.proofs.lookup.default_of.Reads as reads
-use Rattle.rows.proofs.lookup.default_of.Lts as lts
-use Rattle.rows.proofs.table.row_at.Reads as row-at-reads
-use mathlib.Core.Path.{refl, ap, _∙_}
+use mathlib.Core.Path.{refl}
 use Rattle.rows.specs.Lookups.{defaultOf}
 
 add-place : tie.Need-add-place

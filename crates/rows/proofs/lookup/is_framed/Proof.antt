@@ -2,11 +2,7 @@
 use borrow.Author.Needs.{needs}
 use Rattle.rows.proofs.lookup.is_framed.Statement.{statement}
 use Rattle.rows.proofs.lookup.is_framed.Tie as tie
-use Rattle.rows.proofs.lookup.is_framed.Reads as reads
-use Rattle.rows.proofs.lookup.is_framed.Lts as lts
-use Rattle.rows.proofs.place.frames_place.Reads as frames-place-reads
-use Rattle.rows.proofs.table.row_at.Reads as row-at-reads
-use mathlib.Core.Path.{refl, ap, _∙_}
+use mathlib.Core.Path.{refl}
 use Rattle.rows.specs.Lookups.{framed, given}
 
 frames-place-requires : tie.Need-frames-place-requires

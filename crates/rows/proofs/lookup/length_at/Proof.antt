@@ -2,11 +2,7 @@
 use borrow.Author.Needs.{needs}
 use Rattle.rows.proofs.lookup.length_at.Statement.{statement}
 use Rattle.rows.proofs.lookup.length_at.Tie as tie
-use Rattle.rows.proofs.lookup.length_at.Reads as reads
-use Rattle.rows.proofs.lookup.length_at.Lts as lts
-use Rattle.rows.proofs.place.frames_place.Reads as frames-place-reads
-use Rattle.rows.proofs.table.row_at.Reads as row-at-reads
-use mathlib.Core.Path.{refl, ap, _∙_}
+use mathlib.Core.Path.{refl}
 use native.Mathlib.Omega.{arith}
 use Rattle.rows.specs.Lookups.{lengthAt}
 use Rattle.rows.specs.Places.{framesPlace}

@@ -2,10 +2,7 @@
 use borrow.Author.Needs.{needs}
 use Rattle.rows.proofs.lookup.partition_given.Statement.{statement}
 use Rattle.rows.proofs.lookup.partition_given.Tie as tie
-use Rattle.rows.proofs.lookup.partition_given.Reads as reads
-use Rattle.rows.proofs.lookup.partition_given.Lts as lts
-use Rattle.rows.proofs.table.row_at.Reads as row-at-reads
-use mathlib.Core.Path.{refl, ap, _∙_}
+use mathlib.Core.Path.{refl}
 use Rattle.rows.specs.Lookups.{given, partitionGiven}
 
 add-place : tie.Need-add-place
