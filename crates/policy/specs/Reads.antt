@@ -6,7 +6,7 @@ use lib.ListN.{length, drop, replicate}
 use lib.Dec.{ltb, eqb}
 use Rattle.records.specs.declared.kind.Record.{Record}
 use Rattle.records.specs.declared.read.RecordLine.{RecordLine}
-use Rattle.records.specs.declared.read.RecordLine.the-variants.{Got}
+use Rattle.records.specs.declared.read.RecordLine.the-variants.{Got, IllFormed as IllFormedLine, WrongKind as WrongKindLine}
 use Rattle.records.specs.RecordLines.{recordLine}
 use Rattle.rows.specs.Places.{rowCount}
 use Rattle.rows.specs.Lines.{tableOf}

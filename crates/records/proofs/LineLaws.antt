@@ -13,7 +13,7 @@ use Rattle.hexline.specs.Lines.{lineOf, byteAt, spelled}
 use Rattle.hexline.specs.Writes.{pairOf, pairsOf, lineText}
 use Rattle.hexline.specs.Lawful.{Bytes, WholeLine}
 use Rattle.hexline.specs.declared.read.Line.{Line}
-use Rattle.hexline.specs.declared.read.Line.the-variants.{Whole, Unended}
+use Rattle.hexline.specs.declared.read.Line.the-variants.{Whole, IllFormed as IllFormedLine, Unended}
 use Rattle.hexline.proofs.Cond.{by-cond}
 use Rattle.hexline.proofs.DigitLaws.{byte-back}
 use Rattle.hexline.proofs.ByteLaws.{written-line, text-length, whole}

@@ -7,7 +7,7 @@ use mathlib.Core.List.{List}
 use lib.Dec.{eqb}
 use Rattle.hexline.specs.Lines.{lineOf, byteAt, spelled}
 use Rattle.hexline.specs.declared.read.Line.{Line}
-use Rattle.hexline.specs.declared.read.Line.the-variants.{Whole, Unended}
+use Rattle.hexline.specs.declared.read.Line.the-variants.{Whole, IllFormed as IllFormedLine, Unended}
 use Rattle.records.specs.declared.read.RecordLine.{RecordLine}
 use Rattle.records.specs.declared.read.RecordLine.the-variants.{Got, IllFormed, WrongKind}
 use Rattle.records.specs.Kinds.{sizeOf, recordOf}
