@@ -62,12 +62,18 @@ unfoldable pub onward : Verdict → Reading → Reading
 onward Accepted rest = rest
 onward (Refused why) rest = refusal why
 
+-- the refusal of a line that is no record, by its number
+unfoldable pub noRecord : RecordLine → ℕ → Reading
+noRecord (Got r end) line = refusal (IllFormed line)
+noRecord IllFormedLine line = refusal (IllFormed line)
+noRecord WrongKindLine line = refusal (WrongKind line)
+
 -- the lines one after the other
 unfoldable pub judge : List Record → List RecordLine → Reading
 judge earlier [] = atEnd earlier
 judge earlier (Got r end ∷ lines) = onward (verdict earlier r) (judge (r ∷ earlier) lines)
-judge earlier (IllFormedLine ∷ lines) = refusal (IllFormed (length earlier + 1))
-judge earlier (WrongKindLine ∷ lines) = refusal (WrongKind (length earlier + 1))
+judge earlier (IllFormedLine ∷ lines) = noRecord IllFormedLine (length earlier + 1)
+judge earlier (WrongKindLine ∷ lines) = noRecord WrongKindLine (length earlier + 1)
 
 -- what a text is read as
 unfoldable pub readOf : List ℕ → Reading

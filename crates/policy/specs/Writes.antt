@@ -15,6 +15,7 @@ use Rattle.rules.specs.declared.refusal.Verdict.{Verdict}
 use Rattle.rules.specs.declared.refusal.Verdict.the-variants.{Accepted, Refused}
 use Rattle.policy.specs.declared.value.Policy.{Policy}
 use Rattle.policy.specs.declared.reader.Reading.{Reading}
+use Rattle.policy.specs.declared.writer.Size.{Size}
 use Rattle.policy.specs.declared.writer.Writing.{Writing}
 use Rattle.policy.specs.declared.writer.Writing.the-variants.{Wrote, NotWritten}
 use Rattle.policy.specs.Reads.{readOf}
@@ -24,12 +25,16 @@ unfoldable pub textsOf : List Record → List ℕ
 textsOf [] = []
 textsOf (r ∷ lines) = lineText (bytesOf r) ++ textsOf lines
 
--- the lines of a policy, with "0A: count of lines before it"
-unfoldable pub linesFrom : Policy → List Record
-linesFrom p = linesIn (p .rows) ++ (End (length (linesIn (p .rows))) ∷ [])
+-- the lines of a table, with "0A: count of lines before it"
+unfoldable pub allLines : List ℕ → List Record
+allLines rows = linesIn rows ++ (End (length (linesIn rows)) ∷ [])
 
 unfoldable pub textOf : Policy → List ℕ
-textOf p = textsOf (linesFrom p)
+textOf p = textsOf (allLines (p .rows))
+
+-- how many lines a table has, and how many bytes they take with the last
+unfoldable pub sizeOf : List ℕ → Size
+sizeOf rows = record { lines = length (linesIn rows); bytes = length (textsOf (allLines rows)) }
 
 unfoldable pub sameNumbers : List ℕ → List ℕ → Bool
 sameNumbers [] [] = true
@@ -48,6 +53,10 @@ gives reading p = accepts (reading .verdict) && sameNumbers (reading .policy .ro
 -- "one that no accepted text gives" is one that its own text does not give
 unfoldable pub known : Policy → Bool
 known p = gives (readOf (textOf p)) p
+
+-- the same of its table
+unfoldable pub knownRows : List ℕ → Bool
+knownRows rows = known (record { rows = rows })
 
 -- what the writer answers
 unfoldable pub writeOf : Policy → List ℕ → Writing

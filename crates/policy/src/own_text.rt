@@ -1,6 +1,6 @@
 // Whether some accepted text gives a policy: its lines, one after the other, are accepted and fill the same table.
 ghost use mathlib.Core.Path.{_≡_};
-ghost use Rattle.policy.specs.Writes.{known};
+ghost use Rattle.policy.specs.Writes.{sameNumbers, knownRows, known};
 use crate::value::Policy;
 use records::Record;
 use records::kind_of;
@@ -15,7 +15,9 @@ use rules::Verdict;
 use rules::verdict_of;
 
 // Whether two tables hold the same numbers.
-fn same_rows(a: &[u64], b: &[u64]) -> bool {
+fn same_rows(a: &[u64], b: &[u64]) -> bool
+    ensures { λ r. ⌜ r ≡ sameNumbers (now (a .entry)) (now (b .entry)) ⌝ }
+{
     if a.len() != b.len() {
         return false;
     }
@@ -29,8 +31,10 @@ fn same_rows(a: &[u64], b: &[u64]) -> bool {
     true
 }
 
-// The same of a table.
-pub fn known_rows(given: &[u64]) -> bool {
+// The same of a lent table.
+pub fn known_rows(given: &[u64]) -> bool
+    ensures { λ r. ⌜ (r ≡ knownRows (now (given .entry))) × (now (given .exit) ≡ now (given .entry)) ⌝ }
+{
     let mut rows = [0u64; 2153];
     let mut done = Progress {
         kind: 0,

@@ -1,6 +1,6 @@
 // A text, line by line: the first faulty line decides.
 ghost use mathlib.Core.Path.{_≡_};
-ghost use Rattle.policy.specs.Reads.{refusal, readOf};
+ghost use Rattle.policy.specs.Reads.{refusal, noRecord, readOf};
 use crate::value::Policy;
 use records::RecordLine;
 use records::kind_of;
@@ -33,7 +33,9 @@ fn refused(why: Refusal) -> Reading
 }
 
 // The refusal of a line that is no record.
-fn no_record(line: RecordLine, number: u16) -> Reading {
+fn no_record(line: RecordLine, number: u16) -> Reading
+    ensures { λ r. ⌜ r ≡ noRecord line number ⌝ }
+{
     match line {
         RecordLine::WrongKind => refused(Refusal::WrongKind(number)),
         _ => refused(Refusal::IllFormed(number)),

@@ -1,6 +1,11 @@
 // A policy's text, into a lent buffer: known first, then the room, then the lines.
 ghost use mathlib.Core.Path.{_≡_};
-ghost use Rattle.policy.specs.Writes.{writeOf, writtenOf};
+ghost use Prim.Native.Nat.{_≤_};
+ghost use lib.ListN.{length};
+ghost use Rattle.hexline.specs.Writes.{lineText, lay};
+ghost use Rattle.records.specs.Kinds.{bytesOf};
+ghost use Rattle.rows.specs.Lines.{linesIn};
+ghost use Rattle.policy.specs.Writes.{textsOf, sizeOf, writeOf, writtenOf};
 use crate::own_text::known_rows;
 use crate::value::Policy;
 use records::Record;
@@ -24,12 +29,17 @@ pub struct Size {
 }
 
 // A line's bytes: two digits a byte, and a newline.
-fn line_size(rec: Record) -> usize {
+fn line_size(rec: Record) -> usize
+    ensures { λ r. ⌜ r ≡ length (lineText (bytesOf rec)) ⌝ }
+{
     let size = record_size(rec);
     2 * size + 1
 }
 
-fn text_size(rows: &[u64]) -> Size {
+// How many lines and bytes the table's text has, the last line too.
+fn text_size(rows: &[u64]) -> Size
+    ensures { λ r. ⌜ r ≡ sizeOf (now (rows .entry)) ⌝ }
+{
     let mut lines: u16 = 0;
     let mut bytes: usize = 0;
     let mut i: usize = 0;
@@ -49,7 +59,11 @@ fn text_size(rows: &[u64]) -> Size {
     }
 }
 
-fn put_lines(out: &mut [u8], rows: &[u64]) -> usize {
+// All lines but the last, from the buffer's start on; the place after them.
+fn put_lines(out: &mut [u8], rows: &[u64]) -> usize
+    requires { ⌜ length (textsOf (linesIn (now rows))) ≤ length (now out) ⌝ }
+    ensures { λ r. ⌜ (r ≡ length (textsOf (linesIn (now (rows .entry))))) × (now (out .exit) ≡ lay (now (out .entry)) 0 (textsOf (linesIn (now (rows .entry))))) ⌝ }
+{
     let mut at: usize = 0;
     let mut i: usize = 0;
     while i < ROWS {

@@ -1,0 +1,12 @@
+pub mod Below
+pub mod PlanLaws
+pub mod OtherKinds
+pub mod Fine
+pub mod Order
+pub mod Frames
+pub mod Lookup
+pub mod FrameRows
+pub mod Steady
+pub mod Same
+pub mod SameRules
+pub mod Tied
