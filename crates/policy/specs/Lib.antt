@@ -1,2 +1,4 @@
 pub mod Reads
 pub mod Writes
+pub mod Steps
+pub mod Lawful

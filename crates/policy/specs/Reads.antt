@@ -46,6 +46,10 @@ zeroPolicy = record { rows = replicate rowCount 0 }
 unfoldable pub refusal : Refusal → Reading
 refusal why = record { verdict = Refused why; policy = zeroPolicy }
 
+-- "the refusal is handed up with its line"
+unfoldable pub handedUp : Verdict → Reading
+handedUp verdict = record { verdict = verdict; policy = zeroPolicy }
+
 unfoldable pub acceptance : Policy → Reading
 acceptance p = record { verdict = Accepted; policy = p }
 

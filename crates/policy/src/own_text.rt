@@ -1,15 +1,12 @@
 // Whether some accepted text gives a policy: its lines, one after the other, are accepted and fill the same table.
 ghost use mathlib.Core.Path.{_≡_};
 ghost use Rattle.policy.specs.Writes.{sameNumbers, knownRows, known};
+use crate::step::put;
 use crate::value::Policy;
 use records::Record;
-use records::kind_of;
 use rows::ROWS;
-use rows::pack;
-use rows::place_of;
 use rows::record_at;
 use rows::row_at;
-use rows::set_row;
 use rules::Progress;
 use rules::Verdict;
 use rules::verdict_of;
@@ -41,29 +38,26 @@ pub fn known_rows(given: &[u64]) -> bool
         next: 0,
         lines: 0,
     };
-    let mut i: usize = 0;
-    while i < ROWS {
-        let row = row_at(given, i);
-        if row != 0 {
-            let rec = record_at(i, row);
-            let number = done.lines + 1;
-            let verdict = verdict_of(&rows, done, number, rec);
-            let Verdict::Accepted = verdict else {
-                return false;
-            };
-            let place = place_of(done.next, rec);
-            let packed = pack(rec);
-            set_row(&mut rows, place, packed);
-            done = Progress {
-                kind: kind_of(rec),
-                next: place + 1,
-                lines: number,
-            };
+    let mut place: usize = 0;
+    while place < ROWS {
+        let row = row_at(given, place);
+        if row == 0 {
+            place += 1;
+            continue;
         }
-        i += 1;
+        let rec = record_at(place, row);
+        let number = done.lines + 1;
+        let verdict = verdict_of(&rows, done, number, rec);
+        let Verdict::Accepted = verdict else {
+            return false;
+        };
+        let after = put(&mut rows, done, rec);
+        done = after;
+        place += 1;
     }
-    let end = Record::End { count: done.lines };
-    let verdict = verdict_of(&rows, done, 0, end);
+    let count = done.lines;
+    let number = count + 1;
+    let verdict = verdict_of(&rows, done, number, Record::End { count });
     let Verdict::Accepted = verdict else {
         return false;
     };

@@ -1,13 +1,10 @@
 // A text, line by line: the first faulty line decides.
 ghost use mathlib.Core.Path.{_≡_};
-ghost use Rattle.policy.specs.Reads.{refusal, noRecord, readOf};
+ghost use Rattle.policy.specs.Reads.{refusal, noRecord, handedUp, readOf};
+use crate::step::put;
 use crate::value::Policy;
 use records::RecordLine;
-use records::kind_of;
 use records::read_record;
-use rows::pack;
-use rows::place_of;
-use rows::set_row;
 use rules::END;
 use rules::Progress;
 use rules::Refusal;
@@ -37,9 +34,18 @@ fn no_record(line: RecordLine, number: u16) -> Reading
     ensures { λ r. ⌜ r ≡ noRecord line number ⌝ }
 {
     match line {
+        RecordLine::Got(_, _) => refused(Refusal::IllFormed(number)),
+        RecordLine::IllFormed => refused(Refusal::IllFormed(number)),
         RecordLine::WrongKind => refused(Refusal::WrongKind(number)),
-        _ => refused(Refusal::IllFormed(number)),
     }
+}
+
+// The refusal of a line, handed up.
+fn handed_up(verdict: Verdict) -> Reading
+    ensures { λ r. ⌜ r ≡ handedUp verdict ⌝ }
+{
+    let policy = Policy::zero();
+    Reading { verdict, policy }
 }
 
 pub fn read(text: &[u8]) -> Reading
@@ -64,21 +70,15 @@ pub fn read(text: &[u8]) -> Reading
         };
         let verdict = verdict_of(&rows, done, number, rec);
         let Verdict::Accepted = verdict else {
-            let policy = Policy::zero();
-            return Reading { verdict, policy };
+            return handed_up(verdict);
         };
-        let place = place_of(done.next, rec);
-        let row = pack(rec);
-        set_row(&mut rows, place, row);
-        done = Progress {
-            kind: kind_of(rec),
-            next: place + 1,
-            lines: number,
-        };
+        let after = put(&mut rows, done, rec);
+        done = after;
         at += used;
     }
+    let number = done.lines + 1;
     if done.kind != END {
-        return refused(Refusal::WrongKind(done.lines + 1));
+        return refused(Refusal::WrongKind(number));
     }
     let policy = Policy { rows };
     Reading {

@@ -2,9 +2,9 @@
 ghost use mathlib.Core.Path.{_≡_};
 ghost use Prim.Native.Nat.{_≤_};
 ghost use lib.ListN.{length};
-ghost use Rattle.hexline.specs.Writes.{lineText, lay};
+ghost use Rattle.hexline.specs.Writes.{lineText, lay, after};
 ghost use Rattle.records.specs.Kinds.{bytesOf};
-ghost use Rattle.rows.specs.Lines.{linesIn};
+ghost use Rattle.rows.specs.Lines.{lineAt, linesIn};
 ghost use Rattle.policy.specs.Writes.{textsOf, sizeOf, writeOf, writtenOf};
 use crate::own_text::known_rows;
 use crate::value::Policy;
@@ -59,6 +59,18 @@ fn text_size(rows: &[u64]) -> Size
     }
 }
 
+// The line of a place, if there is one, laid into the buffer; the place after it.
+fn put_at(out: &mut [u8], at: usize, rows: &[u64], place: usize) -> usize
+    ensures { λ r. ⌜ (r ≡ after (now (out .entry)) at (textsOf (lineAt (now (rows .entry)) place))) × (now (out .exit) ≡ lay (now (out .entry)) at (textsOf (lineAt (now (rows .entry)) place))) ⌝ }
+{
+    let row = row_at(rows, place);
+    if row == 0 {
+        return at;
+    }
+    let rec = record_at(place, row);
+    put_record(out, at, rec)
+}
+
 // All lines but the last, from the buffer's start on; the place after them.
 fn put_lines(out: &mut [u8], rows: &[u64]) -> usize
     requires { ⌜ length (textsOf (linesIn (now rows))) ≤ length (now out) ⌝ }
@@ -67,12 +79,8 @@ fn put_lines(out: &mut [u8], rows: &[u64]) -> usize
     let mut at: usize = 0;
     let mut i: usize = 0;
     while i < ROWS {
-        let row = row_at(rows, i);
-        if row != 0 {
-            let rec = record_at(i, row);
-            let next = put_record(out, at, rec);
-            at = next;
-        }
+        let next = put_at(out, at, rows, i);
+        at = next;
         i += 1;
     }
     at

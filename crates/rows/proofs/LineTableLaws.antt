@@ -14,7 +14,7 @@ use Rattle.rows.specs.Places.{rowCount, placeOf}
 use Rattle.rows.specs.Rows.{rowOf, recordAt}
 use Rattle.rows.specs.Lawful.{partEnd}
 use Rattle.rows.specs.Lines.{nextIn, rowIn, tableOf, lineAt, linesBelow, linesIn, inOrder, Placed}
-use Rattle.rows.proofs.TableLaws.{get-table, table-is}
+use Rattle.rows.proofs.TableLaws.{get-table, table-is, length-table}
 use Rattle.rows.proofs.PlaceLaws.{below}
 use Rattle.rows.proofs.RowLaws.{back, some}
 
@@ -79,6 +79,10 @@ pub is-table : (e : List Record) (rows : List ℕ) → length rows ≡ rowCount 
 unfolding tableOf
 is-table e rows l h =
     table-is rowCount 0 (rowIn e) rows l (λ i m. h i m ∙ ap (rowIn e) (let z : i ≡ 0 + i = omega arith in z))
+
+pub table-length : (e : List Record) → length (tableOf e) ≡ rowCount
+unfolding tableOf
+table-length e = length-table rowCount 0 (rowIn e)
 
 part-within : (r : Record) → partEnd r ≤ rowCount
 unfolding partEnd

@@ -45,3 +45,8 @@ get-table zero first f zero h = absurd (omega arith)
 get-table zero first f (suc i) h = absurd (omega arith)
 get-table (suc size) first f zero h = ap f (sym (add-zero first))
 get-table (suc size) first f (suc i) h = get-table size (suc first) f i (omega arith) ∙ ap f (let z : suc first + i ≡ first + suc i = omega arith in z)
+
+pub length-table : (size first : ℕ) (f : ℕ → ℕ) → length (table size first f) ≡ size
+unfolding table
+length-table zero first f = refl
+length-table (suc size) first f = ap suc (length-table size (suc first) f)

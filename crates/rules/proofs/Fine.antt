@@ -3,7 +3,7 @@
 use Prim.Native.Nat.{ℕ, _≤_, _<_}
 use mathlib.Core.Bool.{Bool, true, false, cond, not, _&&_, _||_}
 use mathlib.Core.List.{List, [], _∷_}
-use mathlib.Core.Path.{_≡_, refl, ap, sym, _∙_}
+use mathlib.Core.Path.{_≡_, refl}
 use native.Mathlib.Omega.{arith}
 use lib.Dec.{ltb, leb, eqb}
 use lib.ListN.{length}
@@ -17,7 +17,7 @@ use Rattle.rows.specs.Lawful.{Fits}
 use Rattle.rules.specs.declared.refusal.Refusal.{Refusal}
 use Rattle.rules.specs.declared.refusal.Verdict.{Verdict}
 use Rattle.rules.specs.declared.refusal.Verdict.the-variants.{Accepted, Refused}
-use Rattle.rules.specs.Said.{Said, saidIn, lastKind, headerLine}
+use Rattle.rules.specs.Said.{saidIn, lastKind, headerLine}
 use Rattle.rules.specs.Rules.{wrongKind, countsInRange, partitionInRange, groupInRange, subjectInRange, frameInRange, eventInRange, trapInRange, targetInRange, routable, routeInRange, inRange, outOfOrder, incomplete, misplaced, uneven, judged, verdict}
 
 -- ---- the table, rule by rule

@@ -1,13 +1,13 @@
 -- The rows of minor frames: in the eight places of a major and CPU stand its 05 lines in the text's order. So the first place tells
 -- whether there is one, and the lengths add up to the sum over the lines.
-use Prim.Native.Nat.{ℕ, zero, suc, _+_, _*_, _/_, _%_, _≤_, _<_}
-use mathlib.Core.Bool.{Bool, true, false, cond, not, _&&_, _||_}
+use Prim.Native.Nat.{ℕ, zero, suc, _+_, _*_, _%_, _≤_, _<_}
+use mathlib.Core.Bool.{Bool, true, false, cond, _&&_}
 use mathlib.Core.List.{List, [], _∷_}
 use mathlib.Core.Logic.{_⊎_, inl, inr}
 use mathlib.Core.Path.{_≡_, refl, ap, ap₂, sym, _∙_}
 use native.Mathlib.Omega.{arith}
 use native.Mathlib.Decide.{ℕ-discrete}
-use lib.Dec.{ltb, leb, eqb}
+use lib.Dec.{eqb}
 use lib.ListN.{length, getD}
 use borrow.Author.Tests.{eqb-true, eqb-false, eq-eqb, ne-eqb}
 use Rattle.hexline.proofs.Cond.{by-cond, both, same-test}
@@ -18,9 +18,9 @@ use Rattle.records.specs.Kinds.{kindOf, bytesOf}
 use Rattle.rows.specs.Places.{framesStart, eventsStart, framesPlace, placeOf}
 use Rattle.rows.specs.Rows.{rowOf}
 use Rattle.rows.specs.Lawful.{Fits, Room}
-use Rattle.rows.specs.Lines.{nextIn, rowIn, Placed}
+use Rattle.rows.specs.Lines.{nextIn, rowIn}
 use Rattle.rows.proofs.PlaceLaws.{place-frame-from, place-frame-below}
-use Rattle.rows.proofs.LineTableLaws.{row-here, row-other}
+use Rattle.rows.proofs.LineTableLaws.{row-other}
 use Rattle.rules.specs.Said.{framesOf, sumOf}
 use Rattle.rules.proofs.Frames.{Counted, off-frames, frame-or, frames-skip, frames-same, frames-apart, frame-place, Steady}
 

@@ -1,16 +1,16 @@
 -- Minor frames: the 05 lines of a major and CPU stand one after the other in its eight places, so the next place tells how many there
 -- are, and a ninth has none. With each line read, of this kind or another, that stays so.
-use Prim.Native.Nat.{ℕ, zero, suc, _+_, _*_, _≤_, _<_}
+use Prim.Native.Nat.{ℕ, suc, _+_, _*_, _≤_, _<_}
 use mathlib.Core.Bool.{Bool, true, false, cond, not, _&&_, _||_}
 use mathlib.Core.List.{List, [], _∷_}
 use mathlib.Core.Logic.{_⊎_, inl, inr}
-use mathlib.Core.Path.{_≡_, refl, ap, ap₂, sym, _∙_}
+use mathlib.Core.Path.{_≡_, refl, ap, sym, _∙_}
 use native.Mathlib.Omega.{arith}
 use native.Mathlib.Decide.{decLt, ℕ-discrete}
 use lib.Dec.{ltb, leb, eqb}
-use lib.ListN.{length, getD}
-use borrow.Author.Tests.{ltb-true, leb-true, eqb-true, eqb-false, eq-eqb, ne-eqb, lt-ltb, le-leb, lt-leb}
-use Rattle.hexline.proofs.Cond.{both, same-test}
+use lib.ListN.{length}
+use borrow.Author.Tests.{ltb-true, leb-true, eqb-true, eq-eqb, ne-eqb, lt-ltb, le-leb, lt-leb}
+use Rattle.hexline.proofs.Cond.{same-test}
 use Rattle.records.specs.declared.kind.FrameLine.{FrameLine}
 use Rattle.records.specs.declared.kind.Record.{Record}
 use Rattle.records.specs.declared.kind.Record.the-variants.{Header, Partition, Group, Subject, Frame, Event, Trap, Target, Route, End}

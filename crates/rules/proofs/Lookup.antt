@@ -1,25 +1,23 @@
 -- What a table says is what the lines say: the row at a key's place is that of the line with that key. A line of another kind
 -- stands in another part of the table.
-use Prim.Native.Nat.{ℕ, zero, suc, _+_, _*_, _/_, _%_, _≤_, _<_}
-use mathlib.Core.Bool.{Bool, true, false, cond, not, _&&_, _||_}
+use Prim.Native.Nat.{ℕ, _+_, _*_, _/_, _%_, _<_}
+use mathlib.Core.Bool.{Bool, true, false, cond, not, _&&_}
 use mathlib.Core.List.{List, [], _∷_}
-use mathlib.Core.Path.{_≡_, refl, ap, ap₂, sym, _∙_}
+use mathlib.Core.Path.{_≡_, refl, ap, sym}
 use native.Mathlib.Omega.{arith}
 use native.Mathlib.Decide.{decLt}
-use lib.Dec.{ltb, leb, eqb}
-use lib.ListN.{length, getD}
+use lib.Dec.{eqb}
+use lib.ListN.{getD}
 use borrow.Author.Tests.{eqb-true, eqb-false, eq-eqb, ne-eqb}
-use Rattle.hexline.proofs.Cond.{by-cond, same-test}
-use Rattle.records.specs.declared.kind.Counts.{Counts}
 use Rattle.records.specs.declared.kind.Record.{Record}
 use Rattle.records.specs.declared.kind.Record.the-variants.{Header, Partition, Group, Subject, Frame, Event, Trap, Target, Route, End}
-use Rattle.records.specs.Kinds.{kindOf, bytesOf, headerIn}
-use Rattle.rows.specs.Places.{partitionsStart, groupsStart, subjectsStart, framesStart, eventsStart, rowCount, placeOf}
-use Rattle.rows.specs.Rows.{rowOf, countsIn}
+use Rattle.records.specs.Kinds.{kindOf, bytesOf}
+use Rattle.rows.specs.Places.{partitionsStart, groupsStart, subjectsStart, placeOf}
+use Rattle.rows.specs.Rows.{rowOf}
 use Rattle.rows.specs.Lawful.{Fits, Room, partStart, partEnd}
 use Rattle.rows.specs.Lines.{nextIn, rowIn, Placed}
 use Rattle.rows.proofs.PlaceLaws.{from, below}
-use Rattle.rules.specs.Said.{lineWith, headerLine, some}
+use Rattle.rules.specs.Said.{lineWith, some}
 use Rattle.rules.proofs.Order.{parts-apart}
 
 -- how a kind keeps its lines: where its part begins, how many places it has, and the row of a line's bytes

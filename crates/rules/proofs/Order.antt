@@ -2,21 +2,20 @@
 -- the table lie in the kinds' order; inside a kind a place is the key's two parts in one number.
 use Prim.Native.Nat.{ℕ, zero, suc, _+_, _-_, _*_, _≤_, _<_}
 use mathlib.Core.Bool.{Bool, true, false, cond, not, _&&_, _||_, true≢false}
-use mathlib.Core.List.{List, [], _∷_}
+use mathlib.Core.List.{List, _∷_}
 use mathlib.Core.Path.{_≡_, refl, ap, sym, _∙_}
 use native.Mathlib.Omega.{arith}
 use native.Mathlib.Nat.{mul-le-mul-right, suc-mul}
-use lib.Dec.{ltb, leb, eqb}
-use borrow.Author.Tests.{ltb-true, ltb-false, leb-true, leb-false, eqb-true, eqb-false, eq-eqb, ne-eqb, lt-ltb, le-ltb, not-true}
-use Rattle.hexline.proofs.Cond.{both, same-test}
+use lib.Dec.{ltb, eqb}
+use borrow.Author.Tests.{ltb-true, ltb-false, eqb-true, eqb-false, ne-eqb, lt-ltb, le-ltb, not-true}
+use Rattle.hexline.proofs.Cond.{same-test}
 use Rattle.records.specs.declared.kind.Record.{Record}
 use Rattle.records.specs.declared.kind.Record.the-variants.{Header, Partition, Group, Subject, Frame, Event, Trap, Target, Route, End}
 use Rattle.records.specs.Kinds.{kindOf}
-use Rattle.rows.specs.Places.{partitionsStart, groupsStart, subjectsStart, framesStart, eventsStart, trapsStart, targetsStart, routesStart, rowCount, framesPlace, placeOf}
+use Rattle.rows.specs.Places.{partitionsStart, groupsStart, subjectsStart, framesStart, eventsStart, trapsStart, targetsStart, routesStart, rowCount, placeOf}
 use Rattle.rows.specs.Lawful.{Fits, Room, partStart, partEnd}
 use Rattle.rows.specs.Lines.{nextIn}
 use Rattle.rows.proofs.PlaceLaws.{from, below}
-use Rattle.rules.specs.Said.{lastKind}
 use Rattle.rules.specs.Rules.{wrongKind, keyOf, before, follows, ninth, outOfOrder}
 use Rattle.rules.specs.Tables.{behind}
 

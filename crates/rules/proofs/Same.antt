@@ -1,33 +1,33 @@
 -- What a table says is what the lines say that it was filled by: each lookup of `Said`, for the numbers that the header's counts allow.
 -- By the row at the key's place (`Lookup.antt`, `FrameRows.antt`).
-use Prim.Native.Nat.{ℕ, zero, suc, _+_, _*_, _/_, _%_, _≤_, _<_}
-use mathlib.Core.Bool.{Bool, true, false, cond, not, _&&_, _||_}
+use Prim.Native.Nat.{ℕ, _+_, _/_, _%_, _≤_, _<_}
+use mathlib.Core.Bool.{true, not, _&&_}
 use mathlib.Core.List.{List, [], _∷_}
 use mathlib.Core.Logic.{_⊎_, inl, inr}
-use mathlib.Core.Path.{_≡_, refl, ap, ap₂, sym, _∙_}
+use mathlib.Core.Path.{_≡_, refl, ap, sym, _∙_}
 use native.Mathlib.Omega.{arith}
-use lib.Dec.{ltb, leb, eqb}
+use lib.Dec.{ltb, eqb}
 use lib.ListN.{length, getD}
-use borrow.Author.Tests.{ltb-true, leb-true, eqb-true, eq-eqb, ne-eqb}
+use borrow.Author.Tests.{ltb-true, leb-true, eqb-true, ne-eqb}
 use Rattle.hexline.proofs.Cond.{by-cond, both}
 use Rattle.records.specs.declared.kind.Counts.{Counts}
 use Rattle.records.specs.declared.kind.Record.{Record}
 use Rattle.records.specs.declared.kind.Record.the-variants.{Header, Partition, Group, Subject, Frame, Event, Trap, Target, Route, End}
 use Rattle.records.specs.Kinds.{kindOf, bytesOf, headerIn}
-use Rattle.rows.specs.Places.{partitionsStart, groupsStart, subjectsStart, framesStart, rowCount, framesPlace, placeOf}
+use Rattle.rows.specs.Places.{partitionsStart, groupsStart, subjectsStart, rowCount, framesPlace, placeOf}
 use Rattle.rows.specs.Rows.{rowOf, countsIn}
 use Rattle.rows.specs.Lawful.{Fits, Room, partStart}
 use Rattle.rows.specs.Lines.{nextIn, rowIn, Placed}
 use Rattle.rows.specs.Lookups.{countsOf, given, partitionGiven, cpuOf, groupGiven, partitionOf, subjectGiven, groupOf, defaultOf, framed, lengthAt}
 use Rattle.rows.proofs.PlaceLaws.{from, header-there}
 use Rattle.rows.proofs.RowLaws.{back}
-use Rattle.rows.proofs.LineTableLaws.{row-here, row-other}
-use Rattle.rules.specs.Said.{Said, saidIn, lineWith, headerLine, framesOf, sumOf, some}
-use Rattle.rules.specs.Plan.{mostFrames, total, planLength, lengthsAt, periodBy}
+use Rattle.rows.proofs.LineTableLaws.{row-other}
+use Rattle.rules.specs.Said.{Said, saidIn, lineWith, headerLine, framesOf, sumOf}
+use Rattle.rules.specs.Plan.{total, planLength, lengthsAt, periodBy}
 use Rattle.rules.specs.Tables.{saidBy}
 use Rattle.rules.specs.Rules.{inRange, partitionInRange, groupInRange, subjectInRange}
-use Rattle.rules.proofs.Fine.{Fine, fine, Fair, CountsFit, counts-fit}
-use Rattle.rules.proofs.Frames.{Counted, Steady, placed-of, counted-of}
+use Rattle.rules.proofs.Fine.{fine, Fair, CountsFit, counts-fit}
+use Rattle.rules.proofs.Frames.{Steady, placed-of, counted-of}
 use Rattle.rules.proofs.FrameRows.{rowBehind, frame-rows, first-row, sumTo, sum-same, rows-sum, short-of}
 use Rattle.rules.proofs.Lookup.{byteRow, subjectRow, partition-looked, group-looked, subject-looked, byte-given, byte-last, subject-given, subject-group, subject-default}
 

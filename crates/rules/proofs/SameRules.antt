@@ -1,17 +1,17 @@
 -- Two that say the same get the same from each rule: a rule asks only for numbers that its line's ranges allow.
-use Prim.Native.Nat.{ℕ, _≤_, _<_}
-use mathlib.Core.Bool.{Bool, true, false, cond, not, _&&_, _||_}
+use Prim.Native.Nat.{ℕ, _<_}
+use mathlib.Core.Bool.{Bool, true, false, not, _&&_, _||_}
 use mathlib.Core.Path.{_≡_, refl, ap, ap₂, sym, _∙_}
 use native.Mathlib.Omega.{arith}
 use lib.Dec.{ltb, leb, eqb}
-use borrow.Author.Tests.{ltb-true, eqb-false, not-true, not-false}
+use borrow.Author.Tests.{ltb-true, not-true, not-false}
 use Rattle.hexline.proofs.Cond.{both}
 use Rattle.records.specs.declared.kind.Counts.{Counts}
 use Rattle.records.specs.declared.kind.EventLine.{EventLine}
 use Rattle.records.specs.declared.kind.Record.{Record}
 use Rattle.records.specs.declared.kind.Record.the-variants.{Header, Partition, Group, Subject, Frame, Event, Trap, Target, Route, End}
 use Rattle.rules.specs.Said.{Said}
-use Rattle.rules.specs.Rules.{partitionInRange, groupInRange, subjectInRange, frameInRange, eventInRange, trapInRange, targetInRange, routable, routeInRange, inRange, allBelow, anyBelow, allGiven, hasGroup, hasSubject, allUsed, allFramed, complete, incomplete, frameMisplaced, trapMisplaced, hasTarget, unknownSubject, wrongHandover, cpuOfSubject, wrongKick, eventMisplaced, misplaced, even, uneven}
+use Rattle.rules.specs.Rules.{groupInRange, subjectInRange, frameInRange, eventInRange, trapInRange, targetInRange, routable, routeInRange, inRange, allBelow, allGiven, hasGroup, hasSubject, allUsed, allFramed, complete, incomplete, frameMisplaced, trapMisplaced, hasTarget, unknownSubject, wrongHandover, cpuOfSubject, wrongKick, eventMisplaced, misplaced, even, uneven}
 use Rattle.rules.proofs.Fine.{CountsFit}
 use Rattle.rules.proofs.Same.{Same}
 use Rattle.rules.proofs.Below.{below-same, any-same}

@@ -1,27 +1,25 @@
 -- Lines that were each accepted when they were read stand one behind the other in the table: by the rules on kinds and keys, line by
 -- line.
-use Prim.Native.Nat.{ℕ, zero, suc, _+_, _*_, _≤_, _<_}
-use mathlib.Core.Bool.{Bool, true, false, cond, not, _&&_, _||_}
+use Prim.Native.Nat.{ℕ, _+_, _≤_}
+use mathlib.Core.Bool.{false}
 use mathlib.Core.List.{List, [], _∷_}
-use mathlib.Core.Path.{_≡_, refl, ap, sym, _∙_}
+use mathlib.Core.Path.{_≡_, refl, _∙_}
 use native.Mathlib.Omega.{arith}
-use lib.Dec.{ltb, leb, eqb}
-use borrow.Author.Tests.{ltb-true, ltb-false, leb-false, eqb-true, eqb-false, eq-eqb, ne-eqb, le-ltb, lt-leb, not-false}
+use lib.Dec.{ltb}
+use borrow.Author.Tests.{ltb-false, leb-false, ne-eqb, le-ltb, lt-leb}
 use Rattle.hexline.proofs.Cond.{by-cond}
-use Rattle.records.specs.declared.kind.FrameLine.{FrameLine}
 use Rattle.records.specs.declared.kind.Record.{Record}
 use Rattle.records.specs.declared.kind.Record.the-variants.{Header, Partition, Group, Subject, Frame, Event, Trap, Target, Route, End}
 use Rattle.records.specs.Kinds.{kindOf}
 use Rattle.rows.specs.Places.{framesPlace, placeOf}
 use Rattle.rows.specs.Lawful.{Fits, Room}
 use Rattle.rows.specs.Lines.{nextIn}
-use Rattle.rules.specs.declared.refusal.Verdict.the-variants.{Accepted}
 use Rattle.rules.specs.Said.{saidIn, lastKind}
-use Rattle.rules.specs.Rules.{wrongKind, inRange, outOfOrder, verdict, ninth}
+use Rattle.rules.specs.Rules.{wrongKind, outOfOrder, ninth}
 use Rattle.rules.specs.Tables.{behind}
-use Rattle.rules.proofs.Fine.{Fine, fine, Fair, counts-fit, fits-of}
+use Rattle.rules.proofs.Fine.{fine, Fair, counts-fit, fits-of}
 use Rattle.rules.proofs.Order.{Rises, KindMay, kind-may, kind-some, rises-in-order}
-use Rattle.rules.proofs.Frames.{Counted, Steady, counted-of, frame-in-order}
+use Rattle.rules.proofs.Frames.{Steady, counted-of, frame-in-order}
 
 -- a line that is not behind the next place has a place from there on
 room-of : (next : ℕ) (r : Record) → behind next r ≡ false → (kindOf r ≡ 10 → ⊥) → (kindOf r ≡ 1 → next ≡ 0) → Room next r × (next ≤ placeOf next r)

@@ -1,9 +1,9 @@
 -- The table that a reader keeps is tied to the lines that it has read: the verdict by the table is the verdict by the lines, and a line
 -- that is accepted and whose row is set keeps the tie.
-use Prim.Native.Nat.{ℕ, zero, suc, _+_, _≤_, _<_}
+use Prim.Native.Nat.{ℕ, suc, _+_, _≤_, _<_}
 use mathlib.Core.Bool.{Bool, true, false, cond, not}
 use mathlib.Core.List.{List, [], _∷_}
-use mathlib.Core.Path.{_≡_, refl, ap, sym, _∙_}
+use mathlib.Core.Path.{_≡_, refl, ap, _∙_}
 use native.Mathlib.Omega.{arith}
 use native.Mathlib.Decide.{decLt, ℕ-discrete}
 use native.Mathlib.Numerals.{add-one}
@@ -23,13 +23,13 @@ use Rattle.rows.proofs.LineTableLaws.{is-table, within}
 use Rattle.rules.specs.declared.refusal.Refusal.{Refusal}
 use Rattle.rules.specs.declared.refusal.Verdict.{Verdict}
 use Rattle.rules.specs.declared.refusal.Verdict.the-variants.{Accepted, Refused}
-use Rattle.rules.specs.Said.{saidIn, lastKind, lineWith}
+use Rattle.rules.specs.Said.{saidIn, lastKind}
 use Rattle.rules.specs.Rules.{wrongKind, inRange, outOfOrder, incomplete, misplaced, uneven, judged, verdict}
 use Rattle.rules.specs.Tables.{saidBy, behind}
-use Rattle.rules.proofs.Fine.{fine, Fair, counts-fit, fits-of}
-use Rattle.rules.proofs.Frames.{Steady, placed-of}
+use Rattle.rules.proofs.Fine.{Fair, counts-fit, fits-of}
+use Rattle.rules.proofs.Frames.{placed-of}
 use Rattle.rules.proofs.Steady.{in-order, unended, steady}
-use Rattle.rules.proofs.Same.{Same, Rowed, same, group-small, partition-small}
+use Rattle.rules.proofs.Same.{Rowed, same, group-small, partition-small}
 use Rattle.rules.proofs.SameRules.{Bounded, same-incomplete, same-misplaced, same-uneven}
 
 -- the table, the kind of the last line, the next place and the number of lines are those of the lines
