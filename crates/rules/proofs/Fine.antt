@@ -1,31 +1,35 @@
--- What a line that is accepted has: no test of the table holds of it, so its fields are in range and its row has a place. Read off
--- the table from its first rule to its last.
+-- "In a line, the smallest number": a line gets the number of the first test that holds. So no test holds of a line that is accepted;
+-- its fields are in range and its row has a place.
 use Prim.Native.Nat.{ℕ, _≤_, _<_}
-use mathlib.Core.Bool.{Bool, true, false, cond, not, _&&_, _||_}
+use mathlib.Core.Bool.{Bool, true, false, not, _&&_, _||_}
 use mathlib.Core.List.{List, [], _∷_}
 use mathlib.Core.Path.{_≡_, refl}
 use native.Mathlib.Omega.{arith}
 use lib.Dec.{ltb, leb, eqb}
 use lib.ListN.{length}
-use borrow.Author.Tests.{ltb-true, leb-true, eqb-true, not-false}
-use Rattle.hexline.proofs.Cond.{both}
+use borrow.Author.Tests.{ltb-true, leb-true, eqb-true, not-true, not-false}
+use Rattle.hexline.proofs.Cond.{by-cond, both}
 use Rattle.records.specs.declared.kind.Counts.{Counts}
 use Rattle.records.specs.declared.kind.Record.{Record}
 use Rattle.records.specs.declared.kind.Record.the-variants.{Header, Partition, Group, Subject, Frame, Event, Trap, Target, Route, End}
 use Rattle.records.specs.Kinds.{kindOf, bytesOf, headerIn}
 use Rattle.rows.specs.Lawful.{Fits}
-use Rattle.rules.specs.declared.refusal.Refusal.{Refusal}
-use Rattle.rules.specs.declared.refusal.Verdict.{Verdict}
-use Rattle.rules.specs.declared.refusal.Verdict.the-variants.{Accepted, Refused}
+use Rattle.rules.specs.declared.refusal.Verdict.the-variants.{Accepted}
 use Rattle.rules.specs.Said.{saidIn, lastKind, headerLine}
-use Rattle.rules.specs.Rules.{wrongKind, countsInRange, partitionInRange, groupInRange, subjectInRange, frameInRange, eventInRange, trapInRange, targetInRange, routable, routeInRange, inRange, outOfOrder, incomplete, misplaced, uneven, judged, verdict}
+use Rattle.rules.specs.Lawful.{Smallest}
+use Rattle.rules.specs.Rules.{wrongKind, countsInRange, partitionInRange, groupInRange, subjectInRange, longestFrame, frameInRange, eventInRange, trapInRange, targetInRange, routable, routeInRange, inRange, outOfOrder, incomplete, misplaced, uneven, judged, verdict}
 
--- ---- the table, rule by rule
+-- ---- the table, from its first rule to its last
 
--- a rule that is passed: its test is false, and the rules after it are passed
-pub passed : (t : Bool) (why : Refusal) (rest : Verdict) → cond t (Refused why) rest ≡ Accepted → (t ≡ false) × (rest ≡ Accepted)
-passed true why rest e = let z : _≡_ {A = ℕ} 0 1 = cc in absurd (omega arith)
-passed false why rest e = (refl, e)
+pub smallest : (e : List Record) (r : Record) → Smallest e r (verdict e r)
+unfolding verdict judged
+smallest e r =
+    by-cond (Smallest e r) (wrongKind (lastKind e) (kindOf r)) _ _ (λ a. (refl, a))
+    (λ a. by-cond (Smallest e r) (not (inRange (saidIn e .counts) r)) _ _ (λ b. (refl, (a, not-true _ b)))
+    (λ b. by-cond (Smallest e r) (outOfOrder e r) _ _ (λ c. (refl, (a, (not-false _ b, c))))
+    (λ c. by-cond (Smallest e r) (incomplete (saidIn e) (length e) r) _ _ (λ d. (refl, (a, (not-false _ b, (c, d)))))
+    (λ d. by-cond (Smallest e r) (misplaced (saidIn e) r) _ _ (λ f. (refl, (a, (not-false _ b, (c, (d, f))))))
+    (λ f. by-cond (Smallest e r) (uneven (saidIn e) r) _ _ (λ g. (refl, (a, (not-false _ b, (c, (d, (f, g))))))) (λ g. (a, (not-false _ b, (c, (d, (f, g)))))))))))
 
 pub record Fine (e : List Record) (r : Record) : Type 0 where
   pub kind : wrongKind (lastKind e) (kindOf r) ≡ false
@@ -36,15 +40,9 @@ pub record Fine (e : List Record) (r : Record) : Type 0 where
   pub even : uneven (saidIn e) r ≡ false
 
 pub fine : (e : List Record) (r : Record) → verdict e r ≡ Accepted → Fine e r
-unfolding verdict judged
 fine e r v =
-    let a = passed (wrongKind (lastKind e) (kindOf r)) _ _ v in
-    let b = passed (not (inRange (saidIn e .counts) r)) _ _ (a .1) in
-    let c = passed (outOfOrder e r) _ _ (b .1) in
-    let d = passed (incomplete (saidIn e) (length e) r) _ _ (c .1) in
-    let f = passed (misplaced (saidIn e) r) _ _ (d .1) in
-    let g = passed (uneven (saidIn e) r) _ _ (f .1) in
-    record { kind = a .0; range = not-false _ (b .0); order = c .0; full = d .0; placed = f .0; even = g .0 }
+    let t = rw v at (smallest e r) in
+    record { kind = t .0; range = t .1 .0; order = t .1 .1 .0; full = t .1 .1 .1 .0; placed = t .1 .1 .1 .1 .0; even = t .1 .1 .1 .1 .1 }
 
 -- each line was accepted when it was read
 unfoldable pub Fair : List Record → Type 0
@@ -136,7 +134,7 @@ fits-of n f (Frame m) t k =
     let x : m .major < n .majors = ltb-true _ _ (a .0) in
     let y : m .cpu < n .cpus = ltb-true _ _ (b .0) in
     let z : m .partition < n .partitions = ltb-true _ _ (c .0) in
-    let l : m .length ≤ 4000 = leb-true _ _ (both (leb 1 (m .length)) _ (c .1) .1) in
+    let l : m .length ≤ longestFrame = leb-true _ _ (both (leb 1 (m .length)) _ (c .1) .1) in
     omega arith
 fits-of n f (Event v) t k =
     let a = both (ltb (v .subject) (n .subjects)) _ t in

@@ -10,3 +10,4 @@ pub mod Steady
 pub mod Same
 pub mod SameRules
 pub mod Tied
+pub mod Laws

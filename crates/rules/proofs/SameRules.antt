@@ -188,7 +188,7 @@ module _ (s t : Said) (h : Same s t) (b : Bounded t) where
   same-misplaced (Trap n) r =
       let c = b .counts in
       let x : n .subject < t .counts .subjects = ltb-true _ _ (both (ltb (n .subject) (t .counts .subjects)) _ r .0) in
-      ap₂ (λ (y : Bool) (z : ℕ). not y || eqb z (n .event)) (h .subjectGiven (n .subject) (omega arith)) (h .defaultOf (n .subject) (omega arith))
+      rw (h .subjectGiven (n .subject) (omega arith), h .defaultOf (n .subject) (omega arith))
   same-misplaced (Target n) r =
       let c = b .counts in
       let x : n .subject < t .counts .subjects = ltb-true _ _ (both (ltb (n .subject) (t .counts .subjects)) _ r .0) in

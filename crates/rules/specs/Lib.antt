@@ -3,3 +3,4 @@ pub mod Said
 pub mod Rules
 pub mod Plan
 pub mod Tables
+pub mod Lawful

@@ -58,11 +58,14 @@ unfoldable pub subjectInRange : Counts → SubjectLine → Bool
 subjectInRange n s = ltb (s .number) (n .subjects) && (ltb (s .group) (n .groups) && leb (s .«default_event») 15)
 
 -- "length 1-4,000"
+abbrev pub longestFrame : ℕ
+longestFrame = 4000
+
 unfoldable pub frameInRange : Counts → FrameLine → Bool
 frameInRange n f =
     ltb (f .major) (n .majors)
     && (ltb (f .cpu) (n .cpus)
-    && (ltb (f .partition) (n .partitions) && (leb 1 (f .length) && leb (f .length) 4000)))
+    && (ltb (f .partition) (n .partitions) && (leb 1 (f .length) && leb (f .length) longestFrame)))
 
 -- "event 0-15, action 0-7, IRQ line 0-23 or FF, target subject or FF, target event 0-31 or FF, kick 0-1"
 unfoldable pub eventInRange : Counts → EventLine → Bool
