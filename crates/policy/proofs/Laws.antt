@@ -4,7 +4,7 @@ use Prim.Native.Nat.{ℕ, _+_, _<_}
 use mathlib.Core.Bool.{Bool, true, false}
 use mathlib.Core.List.{List, [], _∷_, _++_}
 use mathlib.Core.Logic.{_↔_}
-use mathlib.Core.Path.{_≡_, refl, ap, sym, _∙_}
+use mathlib.Core.Path.{_≡_, refl, ap, ap₂, sym, _∙_}
 use native.Mathlib.Omega.{arith}
 use lib.Dec.{ltb, leb, eqb}
 use lib.ListN.{length, getD, drop, List·getD-append}
@@ -80,12 +80,12 @@ write-unknown p out k = (rw k, rw k)
 
 write-short : (p : Policy) (out : List ℕ) → known p ≡ true → leb (length (textOf p)) (length out) ≡ false → (writeOf p out ≡ NotWritten NoRoom) × (writtenOf p out ≡ out)
 unfolding writeOf writtenOf
-write-short p out k f = (rw (k, f), rw (k, f))
+write-short p out k f = (rw (k, f), ap₂ (λ (a : Bool) (b : Bool). cond (a && b) (textOf p ++ drop (length (textOf p)) out) out) k f)
 
 write-done : (p : Policy) (out : List ℕ) → known p ≡ true → leb (length (textOf p)) (length out) ≡ true
     → (writeOf p out ≡ Wrote (length (textOf p))) × (writtenOf p out ≡ textOf p ++ drop (length (textOf p)) out)
 unfolding writeOf writtenOf
-write-done p out k f = (rw (k, f), rw (k, f))
+write-done p out k f = (rw (k, f), ap₂ (λ (a : Bool) (b : Bool). cond (a && b) (textOf p ++ drop (length (textOf p)) out) out) k f)
 
 -- two answers that are not one
 clash : {A : Type 0} (w : Writing) (why : Refusal) (n : ℕ) → w ≡ Wrote n → w ≡ NotWritten why → A
