@@ -1,7 +1,7 @@
 -- The laws of this crate, together: what `lawful` promises. The inverse is `Theorems.antt`'s; the others go by the cases of the reader's
 -- and the writer's answers.
 use Prim.Native.Nat.{ℕ, _+_, _<_}
-use mathlib.Core.Bool.{Bool, true, false}
+use mathlib.Core.Bool.{Bool, true, false, cond, _&&_}
 use mathlib.Core.List.{List, [], _∷_, _++_}
 use mathlib.Core.Logic.{_↔_}
 use mathlib.Core.Path.{_≡_, refl, ap, ap₂, sym, _∙_}
@@ -27,6 +27,7 @@ use Rattle.policy.specs.declared.writer.Writing.the-variants.{Wrote, Not
 use Rattle.policy.specs.Reads.{longestText, linesOf, zeroPolicy, refusal, acceptance, policyOf, atEnd, onward, noRecord, judge, readOf}
 use Rattle.policy.specs.Writes.{textOf, known, writeOf, writtenOf}
 use Rattle.policy.specs.Lawful.{Lawful}
+use Rattle.policy.proofs.Session.{session, session-unended}
 use Rattle.policy.proofs.Theorems.{accepted-text, known-accepted, accepted-known, unknown}
 
 -- ---- a reading that is refused
@@ -140,6 +141,8 @@ module _ (p : Policy) (out : List ℕ) where
 
 pub laws : Lawful
 laws = record {
+  session = session;
+  session-unended = session-unended;
   accepted-text = accepted-text;
   known-accepted = known-accepted;
   accepted-known = accepted-known;

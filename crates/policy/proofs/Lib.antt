@@ -5,4 +5,5 @@ pub mod Theorems
 pub mod KnownLaws
 pub mod SameNumbers
 pub mod WriteLaws
+pub mod Session
 pub mod Laws

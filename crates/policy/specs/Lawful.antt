@@ -5,16 +5,20 @@ use mathlib.Core.Path.{_≡_}
 use mathlib.Core.Bool.{true}
 use mathlib.Core.List.{List}
 use mathlib.Core.Logic.{_↔_}
-use lib.ListN.{length, getD}
+use lib.ListN.{length, getD, take}
 use Rattle.rules.specs.declared.refusal.Refusal.{Refusal}
-use Rattle.rules.specs.declared.refusal.Refusal.the-variants.{NotAPolicy, NoRoom}
-use Rattle.rules.specs.declared.refusal.Verdict.the-variants.{Refused}
+use Rattle.rules.specs.declared.refusal.Refusal.the-variants.{NotAPolicy, WrongKind, NoRoom}
+use Rattle.rules.specs.declared.refusal.Verdict.the-variants.{Accepted, Refused}
 use Rattle.policy.specs.declared.value.Policy.{Policy}
 use Rattle.policy.specs.declared.writer.Writing.the-variants.{Wrote, NotWritten}
 use Rattle.policy.specs.Reads.{zeroPolicy, acceptance, readOf}
+use Rattle.policy.specs.Session.{sessionText}
 use Rattle.policy.specs.Writes.{textOf, known, writeOf, writtenOf}
 
 pub record Lawful : Type 0 where
+  -- the policy text of document 01's bench session is accepted, and without its last line it is refused there
+  pub session : readOf sessionText .verdict ≡ Accepted
+  pub session-unended : readOf (take 174 sessionText) .verdict ≡ Refused (WrongKind 17)
   -- an accepted text is exactly what the writer writes for its policy
   pub accepted-text : (text : List ℕ) (p : Policy) → readOf text ≡ acceptance p → textOf p ≡ text
   -- a known policy's text is accepted and gives it back

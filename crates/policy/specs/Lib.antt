@@ -1,4 +1,5 @@
 pub mod Reads
 pub mod Writes
 pub mod Steps
+pub mod Session
 pub mod Lawful

@@ -1,5 +1,5 @@
--- What the lines of a table say of partitions, groups, subjects and plans: each lookup reads the row at the key's place. The laws
--- of the policy crate say that this is what the line of the text says.
+-- What the lines of a table say of partitions, groups, subjects and plans: each lookup reads the row at the key's place. That this
+-- is what the line of the text says is `proofs/Same.antt` of crate rules.
 use Prim.Native.Nat.{ℕ, _+_, _/_, _%_}
 use mathlib.Core.Bool.{Bool, not}
 use mathlib.Core.List.{List}

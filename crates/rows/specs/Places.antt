@@ -1,6 +1,6 @@
 -- Where the row of a line stands in the policy's table: one part of the table for each kind, in the order of the kinds, and in it
--- the keys from the lowest. So the places of the lines of a text rise strictly. This file and `Rows.antt` alone know places and
--- packed rows; what a policy says is looked up through them.
+-- the keys from the lowest. So the places of the lines of a text rise strictly. Places and packed rows are known in
+-- this crate alone; what a policy says is looked up through it.
 use Prim.Native.Nat.{ℕ, _+_, _*_}
 use mathlib.Core.Bool.{cond}
 use lib.Dec.{ltb}

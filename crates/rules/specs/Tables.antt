@@ -1,5 +1,5 @@
--- What the table says, which the code keeps of the lines read so far. No public contract cites this; `proofs/Tied.antt` says that
--- it is what the lines say.
+-- What the table says, which the code keeps of the lines read so far. The rules themselves are `Rules.antt`'s; `proofs/Tied.antt`
+-- says that what the table says is what the lines say.
 use Prim.Native.Nat.{ℕ, _+_}
 use mathlib.Core.Bool.{Bool, false}
 use mathlib.Core.List.{List}

@@ -22,7 +22,7 @@ pub struct Progress {
     pub lines: u16,
 }
 
-// Whether the line's key is not behind the last one's, by its place; a ninth minor frame has none.
+// Whether the line's key is out of order, by its place: not past the last line's. A ninth minor frame has no place.
 fn is_behind(next: usize, rec: Record) -> bool
     ensures { λ r. ⌜ r ≡ behind next rec ⌝ }
 {
