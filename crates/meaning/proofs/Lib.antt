@@ -1,1 +1,6 @@
+pub mod Laid
+pub mod KeyedLaws
+pub mod KeptKinds
+pub mod Spoken
 pub mod FrameLaws
+pub mod Laws
