@@ -3,8 +3,8 @@
 use Prim.Native.Nat.{ℕ, zero, suc, _+_, _*_, _/_, _%_, _≤_, _<_}
 use mathlib.Core.Bool.{Bool, true, false, cond, _&&_}
 use mathlib.Core.List.{List, [], _∷_, _++_}
-use mathlib.Core.Logic.{_⊎_, inl, inr}
-use mathlib.Core.Path.{_≡_, refl, ap, ap₂, sym, _∙_}
+use mathlib.Core.Logic.{inl, inr}
+use mathlib.Core.Path.{_≡_, refl, ap, sym, _∙_}
 use native.Mathlib.Omega.{arith}
 use native.Mathlib.Decide.{decLt}
 use native.Mathlib.Numerals.{add-one}
@@ -19,7 +19,7 @@ use Rattle.records.specs.Kinds.{kindOf, bytesOf}
 use Rattle.rows.specs.Places.{framesPlace}
 use Rattle.rows.specs.Lawful.{Fits}
 use Rattle.rows.specs.Lines.{tableOf}
-use Rattle.rows.specs.KeyPlaces.{minorRow, keyedMinor}
+use Rattle.rows.specs.KeyPlaces.{minorRow}
 use Rattle.rules.specs.Said.{framesOf}
 use Rattle.rules.proofs.FrameRows.{frameRow, rowBehind, past-rows}
 use Rattle.meaning.specs.declared.answer.Frame as minor

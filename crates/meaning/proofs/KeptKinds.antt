@@ -1,5 +1,5 @@
 -- How each kind with a key keeps its lines: a key's place lies in the kind's part of the table, and the line read off it has that key.
-use Prim.Native.Nat.{ℕ, _+_, _*_, _-_, _/_, _%_, _≤_, _<_}
+use Prim.Native.Nat.{ℕ, _+_, _*_, _-_, _/_, _%_, _<_}
 use mathlib.Core.Bool.{Bool, true, _&&_}
 use mathlib.Core.Path.{_≡_, refl, ap, ap₂, _∙_}
 use native.Mathlib.Omega.{arith}
@@ -7,15 +7,12 @@ use lib.Dec.{ltb}
 use borrow.Author.Tests.{ltb-true, lt-ltb}
 use Rattle.hexline.proofs.Cond.{both}
 use Rattle.records.specs.declared.kind.Counts.{Counts}
-use Rattle.records.specs.declared.kind.PartitionLine.{PartitionLine}
-use Rattle.records.specs.declared.kind.GroupLine.{GroupLine}
-use Rattle.records.specs.declared.kind.SubjectLine.{SubjectLine}
 use Rattle.records.specs.declared.kind.EventLine.{EventLine}
 use Rattle.records.specs.declared.kind.TrapLine.{TrapLine}
 use Rattle.records.specs.declared.kind.TargetLine.{TargetLine}
 use Rattle.records.specs.declared.kind.RouteLine.{RouteLine}
 use Rattle.records.specs.declared.kind.Record.{Record}
-use Rattle.records.specs.declared.kind.Record.the-variants.{Header, Partition, Group, Subject, Frame, Event, Trap, Target, Route, End}
+use Rattle.records.specs.declared.kind.Record.the-variants.{Header, Partition, Group, Subject, Event, Trap, Target, Route}
 use Rattle.records.specs.Kinds.{kindOf}
 use Rattle.rows.specs.Places.{partitionsStart, groupsStart, subjectsStart, eventsStart, trapsStart, targetsStart, routesStart, placeOf}
 use Rattle.rows.specs.Rows.{countsIn, partitionAt, groupAt, subjectAt, eventAt, trapAt, targetAt, routeAt}
@@ -138,8 +135,8 @@ kept-partition =
       allowed = λ w f. lt-ltb (w .number) 8 (f .0);
       inside = λ k m. omega (arith, ltb-true k 8 m);
       built = λ k row m.
-        partition-there (partitionPlace k) row (omega arith) (omega (arith, ltb-true k 8 m))
-        ∙ ap (λ (n : ℕ). Partition (partitionAt n row)) (let z : partitionsStart + k - partitionsStart ≡ k = omega arith in z);
+          partition-there (partitionPlace k) row (omega arith) (omega (arith, ltb-true k 8 m))
+          ∙ ap (λ (n : ℕ). Partition (partitionAt n row)) (let z : partitionsStart + k - partitionsStart ≡ k = omega arith in z);
       keyed = λ k row m. omega (arith, ltb-true k 8 m);
     }
 
@@ -153,8 +150,8 @@ kept-group =
       allowed = λ w f. lt-ltb (w .number) 16 (f .0);
       inside = λ k m. omega (arith, ltb-true k 16 m);
       built = λ k row m.
-        group-there (groupPlace k) row (omega arith) (omega (arith, ltb-true k 16 m))
-        ∙ ap (λ (n : ℕ). Group (groupAt n row)) (let z : groupsStart + k - groupsStart ≡ k = omega arith in z);
+          group-there (groupPlace k) row (omega arith) (omega (arith, ltb-true k 16 m))
+          ∙ ap (λ (n : ℕ). Group (groupAt n row)) (let z : groupsStart + k - groupsStart ≡ k = omega arith in z);
       keyed = λ k row m. omega (arith, ltb-true k 16 m);
     }
 
@@ -168,8 +165,8 @@ kept-subject =
       allowed = λ w f. lt-ltb (w .number) 16 (f .0);
       inside = λ k m. omega (arith, ltb-true k 16 m);
       built = λ k row m.
-        subject-there (subjectPlace k) row (omega arith) (omega (arith, ltb-true k 16 m))
-        ∙ ap (λ (n : ℕ). Subject (subjectAt n row)) (let z : subjectsStart + k - subjectsStart ≡ k = omega arith in z);
+          subject-there (subjectPlace k) row (omega arith) (omega (arith, ltb-true k 16 m))
+          ∙ ap (λ (n : ℕ). Subject (subjectAt n row)) (let z : subjectsStart + k - subjectsStart ≡ k = omega arith in z);
       keyed = λ k row m. omega (arith, ltb-true k 16 m);
     }
 
@@ -183,14 +180,14 @@ kept-event =
       allowed = λ w f. allows 16 16 (w .subject) (w .event) (f .0) (f .1 .0);
       inside = λ k m. omega (arith, within 16 16 k m .first, within 16 16 k m .second);
       built = λ k row m.
-        let b = within 16 16 k m in
-        event-there (eventPlace k) row (omega arith) (omega arith)
-        ∙ ap (λ (n : ℕ). Event (eventAt n row)) (let z : eventPlace k - eventsStart ≡ k .0 * 16 + k .1 = omega arith in z);
+          let b = within 16 16 k m in
+          event-there (eventPlace k) row (omega arith) (omega arith)
+          ∙ ap (λ (n : ℕ). Event (eventAt n row)) (let z : eventPlace k - eventsStart ≡ k .0 * 16 + k .1 = omega arith in z);
       keyed = λ k row m.
-        let b = within 16 16 k m in
-        let s : (k .0 * 16 + k .1) / 16 % 256 ≡ k .0 = omega arith in
-        let t : (k .0 * 16 + k .1) % 16 ≡ k .1 = omega arith in
-        ap₂ (λ (x : ℕ) (y : ℕ). (x, y)) s t;
+          let b = within 16 16 k m in
+          let s : (k .0 * 16 + k .1) / 16 % 256 ≡ k .0 = omega arith in
+          let t : (k .0 * 16 + k .1) % 16 ≡ k .1 = omega arith in
+          ap₂ (λ (x : ℕ) (y : ℕ). (x, y)) s t;
     }
 
 pub kept-trap : Kept Trap trapKey trapMay trapPlace trapBuilt
@@ -203,14 +200,14 @@ kept-trap =
       allowed = λ w f. allows 16 60 (w .subject) (w .trap) (f .0) (f .1 .0);
       inside = λ k m. omega (arith, within 16 60 k m .first, within 16 60 k m .second);
       built = λ k row m.
-        let b = within 16 60 k m in
-        trap-there (trapPlace k) row (omega arith) (omega arith)
-        ∙ ap (λ (n : ℕ). Trap (trapAt n row)) (let z : trapPlace k - trapsStart ≡ k .0 * 60 + k .1 = omega arith in z);
+          let b = within 16 60 k m in
+          trap-there (trapPlace k) row (omega arith) (omega arith)
+          ∙ ap (λ (n : ℕ). Trap (trapAt n row)) (let z : trapPlace k - trapsStart ≡ k .0 * 60 + k .1 = omega arith in z);
       keyed = λ k row m.
-        let b = within 16 60 k m in
-        let s : (k .0 * 60 + k .1) / 60 % 256 ≡ k .0 = omega arith in
-        let t : (k .0 * 60 + k .1) % 60 ≡ k .1 = omega arith in
-        ap₂ (λ (x : ℕ) (y : ℕ). (x, y)) s t;
+          let b = within 16 60 k m in
+          let s : (k .0 * 60 + k .1) / 60 % 256 ≡ k .0 = omega arith in
+          let t : (k .0 * 60 + k .1) % 60 ≡ k .1 = omega arith in
+          ap₂ (λ (x : ℕ) (y : ℕ). (x, y)) s t;
     }
 
 pub kept-target : Kept Target targetKey targetMay targetPlace targetBuilt
@@ -223,14 +220,14 @@ kept-target =
       allowed = λ w f. allows 16 32 (w .subject) (w .event) (f .0) (f .1 .0);
       inside = λ k m. omega (arith, within 16 32 k m .first, within 16 32 k m .second);
       built = λ k row m.
-        let b = within 16 32 k m in
-        target-there (targetPlace k) row (omega arith) (omega arith)
-        ∙ ap (λ (n : ℕ). Target (targetAt n row)) (let z : targetPlace k - targetsStart ≡ k .0 * 32 + k .1 = omega arith in z);
+          let b = within 16 32 k m in
+          target-there (targetPlace k) row (omega arith) (omega arith)
+          ∙ ap (λ (n : ℕ). Target (targetAt n row)) (let z : targetPlace k - targetsStart ≡ k .0 * 32 + k .1 = omega arith in z);
       keyed = λ k row m.
-        let b = within 16 32 k m in
-        let s : (k .0 * 32 + k .1) / 32 % 256 ≡ k .0 = omega arith in
-        let t : (k .0 * 32 + k .1) % 32 ≡ k .1 = omega arith in
-        ap₂ (λ (x : ℕ) (y : ℕ). (x, y)) s t;
+          let b = within 16 32 k m in
+          let s : (k .0 * 32 + k .1) / 32 % 256 ≡ k .0 = omega arith in
+          let t : (k .0 * 32 + k .1) % 32 ≡ k .1 = omega arith in
+          ap₂ (λ (x : ℕ) (y : ℕ). (x, y)) s t;
     }
 
 pub kept-route : Kept Route hostOf routeMay routePlace routeBuilt
@@ -243,9 +240,9 @@ kept-route =
       allowed = λ w f. lt-ltb (w .host) 256 (f .0);
       inside = λ k m. omega (arith, ltb-true (k .0) 256 m);
       built = λ k row m.
-        route-there (routePlace k) row (omega arith) (omega (arith, ltb-true (k .0) 256 m))
-        ∙ ap (λ (n : ℕ). Route (routeAt n row)) (let z : routePlace k - routesStart ≡ k .0 = omega arith in z);
+          route-there (routePlace k) row (omega arith) (omega (arith, ltb-true (k .0) 256 m))
+          ∙ ap (λ (n : ℕ). Route (routeAt n row)) (let z : routePlace k - routesStart ≡ k .0 = omega arith in z);
       keyed = λ k row m.
-        let h : k .0 % 256 ≡ k .0 = omega (arith, ltb-true (k .0) 256 m) in
-        ap (λ (n : ℕ). let v : HostVector = record { 0 = n } in v) h;
+          let h : k .0 % 256 ≡ k .0 = omega (arith, ltb-true (k .0) 256 m) in
+          ap (λ (n : ℕ). let v : HostVector = record { 0 = n } in v) h;
     }

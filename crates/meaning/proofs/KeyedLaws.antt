@@ -18,7 +18,7 @@ use Rattle.rows.specs.Lawful.{Fits, Room}
 use Rattle.rows.specs.Lines.{tableOf}
 use Rattle.rows.proofs.RowLaws.{back, some}
 use Rattle.meaning.specs.Means.{Has, Listed, Unlisted, Tells}
-use Rattle.meaning.proofs.Laid.{Keyed, Stands, Here, Laid}
+use Rattle.meaning.proofs.Laid.{Keyed, Stands, Laid}
 
 -- how a kind keeps its lines: which keys a line may have, the place of each, and the line of a key that has a row
 pub record Kept {Line Key : Type 0} (line : Line → Record) (key : Line → Key) (may : Key → Bool) (place : Key → ℕ) (build : Key → ℕ → Line) : Type 0 where

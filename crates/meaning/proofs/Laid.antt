@@ -1,7 +1,7 @@
 -- What stands in the table of accepted lines: at the place of a line its row, at every other place 0, and in the eight places of a major
 -- and CPU its 05 lines. Places rise from line to line, so no later line's row stands over an earlier one's; a last 0A line stands
 -- past the table.
-use Prim.Native.Nat.{ℕ, zero, suc, _+_, _≤_, _<_}
+use Prim.Native.Nat.{ℕ, _+_, _≤_, _<_}
 use mathlib.Core.List.{List, [], _∷_}
 use mathlib.Core.Logic.{_⊎_, inl, inr}
 use mathlib.Core.Path.{_≡_, refl, ap, sym, _∙_}
@@ -21,7 +21,7 @@ use Rattle.rows.proofs.RowLaws.{back}
 use Rattle.rows.proofs.LineTableLaws.{row-here, row-other, get-row, within}
 use Rattle.rules.specs.Said.{lastKind, framesOf}
 use Rattle.rules.proofs.Fine.{Fair, fine}
-use Rattle.rules.proofs.Frames.{Counted, Steady, placed-of, counted-of, frames-skip}
+use Rattle.rules.proofs.Frames.{Steady, placed-of, counted-of, frames-skip}
 use Rattle.rules.proofs.FrameRows.{rowBehind, frame-rows}
 use Rattle.rules.proofs.Steady.{unended, steady}
 use Rattle.meaning.specs.Means.{Has}
@@ -90,9 +90,9 @@ laid-steady e s =
     let p = placed-of e s in
     record {
       here = λ r h k.
-        let b = row-kept e p r h k in
-        let l : placeOf 0 r < rowCount = omega (arith, b .1 .0, within e p) in
-        record { fits = b .1 .1; place = l; is = get-row e (placeOf 0 r) l ∙ b .0 };
+          let b = row-kept e p r h k in
+          let l : placeOf 0 r < rowCount = omega (arith, b .1 .0, within e p) in
+          record { fits = b .1 .1; place = l; is = get-row e (placeOf 0 r) l ∙ b .0 };
       there = λ i l. rw (get-row e i l) (row-read e p i);
       frames = λ m c i lm lc li. get-row e (framesPlace m c + i) (frames-within m c i lm lc li) ∙ frame-rows e s m c i lm lc li;
       few = λ m c lm lc. counted-of e s m c lm lc .few;
@@ -122,8 +122,8 @@ laid-end : (k : ℕ) (e : List Record) → Laid e → Laid (End k ∷ e)
 laid-end k e l =
     record {
       here = λ r h w.
-        let b = l .here r (not-end k e r w h) w in
-        record { fits = b .fits; place = b .place; is = end-row k e (placeOf 0 r) (b .place) ∙ b .is };
+          let b = l .here r (not-end k e r w h) w in
+          record { fits = b .fits; place = b .place; is = end-row k e (placeOf 0 r) (b .place) ∙ b .is };
       there = λ i u. rw (end-row k e i u) (more i (l .there i u));
       frames = λ m c i lm lc li. end-row k e (framesPlace m c + i) (frames-within m c i lm lc li) ∙ l .frames m c i lm lc li ∙ ap (λ (x : List (List ℕ)). rowBehind x i) (sym (end-frames k e m c));
       few = λ m c lm lc. rw (end-frames k e m c) (l .few m c lm lc);

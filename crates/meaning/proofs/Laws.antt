@@ -1,6 +1,5 @@
 -- The policy means its text: each lookup reads the row of a key, the row is that of the line that has the key, and an accepted line says
 -- something. The generic laws are `KeyedLaws`, the kinds `KeptKinds`, minor frames `FrameLaws`.
-use Prim.Native.Nat.{ℕ}
 use mathlib.Core.List.{List}
 use mathlib.Core.Path.{_≡_, refl, ap, sym, _∙_}
 use native.Mathlib.Omega.{arith}
@@ -11,7 +10,7 @@ use Rattle.records.specs.declared.kind.GroupLine.{GroupLine}
 use Rattle.records.specs.declared.kind.SubjectLine.{SubjectLine}
 use Rattle.records.specs.declared.kind.TrapLine.{TrapLine}
 use Rattle.records.specs.declared.kind.Record.{Record}
-use Rattle.records.specs.declared.kind.Record.the-variants.{Header, Partition, Group, Subject, Frame, Event, Trap, Target, Route, End}
+use Rattle.records.specs.declared.kind.Record.the-variants.{Header, Partition, Group, Subject, Frame, Event, Trap, Target, Route}
 use Rattle.records.specs.Kinds.{kindOf}
 use Rattle.rows.specs.Rows.{partitionAt, groupAt, subjectAt}
 use Rattle.rows.specs.Lines.{tableOf}

@@ -1,14 +1,14 @@
 -- An accepted line says something: what it says is never what is said of a key without a line. By the rules of document 01 on ranges
 -- (08), on targets (06: "action 0 without" one is misplaced) and on traps (07: "a trap line equal to the default" is).
-use Prim.Native.Nat.{ℕ, suc, _≤_, _<_}
+use Prim.Native.Nat.{ℕ, suc, _≤_}
 use mathlib.Core.Bool.{Bool, true, false, cond, not, _&&_, _||_}
 use mathlib.Core.List.{List, [], _∷_}
-use mathlib.Core.Logic.{_⊎_, inl, inr}
-use mathlib.Core.Path.{_≡_, refl, ap, sym, _∙_}
+use mathlib.Core.Logic.{inl, inr}
+use mathlib.Core.Path.{_≡_, refl, ap, _∙_}
 use native.Mathlib.Omega.{arith}
 use lib.Dec.{ltb, leb, eqb}
 use lib.ListN.{getD}
-use borrow.Author.Tests.{ltb-true, leb-true, eqb-true, eqb-false, eq-eqb, ne-eqb, not-false}
+use borrow.Author.Tests.{leb-true, eqb-true, eqb-false, not-false}
 use Rattle.hexline.proofs.Cond.{by-cond, both}
 use Rattle.records.specs.declared.kind.Counts.{Counts}
 use Rattle.records.specs.declared.kind.SubjectLine.{SubjectLine}
@@ -21,13 +21,12 @@ use Rattle.records.specs.declared.kind.Record.the-variants.{Header, Partition, 
 use Rattle.records.specs.Kinds.{kindOf, bytesOf}
 use Rattle.rows.specs.Lawful.{Fits}
 use Rattle.rules.specs.Said.{Said, saidIn, lineWith, some}
-use Rattle.rules.specs.Rules.{none, inRange, eventInRange, targetInRange, misplaced, hasTarget, unknownSubject, wrongIrqLine, wrongHandover, halfTarget, wrongTarget, wrongKick, eventMisplaced, trapMisplaced}
+use Rattle.rules.specs.Rules.{none, inRange, eventInRange, targetInRange, misplaced, hasTarget, unknownSubject, wrongIrqLine, wrongHandover, halfTarget, wrongTarget, eventMisplaced, trapMisplaced}
 use Rattle.rules.proofs.Fine.{Fine, fine, Fair, counts-fit, fits-of}
 use Rattle.meaning.specs.declared.answer.SubjectVector.{SubjectVector}
 use Rattle.meaning.specs.declared.answer.Route.the-variants.{Nowhere}
 use Rattle.meaning.specs.declared.answer.Action.{Action}
 use Rattle.meaning.specs.declared.answer.Action.the-variants as action
-use Rattle.meaning.specs.declared.answer.Signal.{Signal}
 use Rattle.meaning.specs.declared.answer.Signal.the-variants as signal
 use Rattle.meaning.specs.declared.answer.SourceEvent.{SourceEvent}
 use Rattle.meaning.specs.declared.answer.TargetAction.the-variants as target

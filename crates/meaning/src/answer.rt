@@ -36,11 +36,7 @@ pub enum Action {
 // The target event, if there is one.
 pub enum Signal {
     Nothing,
-    To {
-        subject: u8,
-        event: u8,
-        kick: bool,
-    },
+    To { subject: u8, event: u8, kick: bool },
 }
 
 pub struct SourceEvent {

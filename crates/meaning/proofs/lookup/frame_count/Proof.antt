@@ -4,7 +4,7 @@ use Rattle.meaning.proofs.lookup.frame_count.Tie as tie
 use borrow.Author.Needs.{needs}
 use native.Mathlib.Omega.{arith}
 use mathlib.Core.Path.{_≡_, refl, sym, ap, _∙_}
-use Prim.Native.Nat.{ℕ, _≤_, _-_}
+use Prim.Native.Nat.{_≤_, _-_}
 use Rattle.meaning.specs.Lookups.{framesBelow, frameCount}
 use Rattle.meaning.proofs.FrameLaws.{none-below, one-below}
 
