@@ -13,6 +13,7 @@ use Rattle.records.specs.declared.kind.Record.{Record}
 use Rattle.records.specs.declared.kind.Record.the-variants.{Header, Partition, Group, Subject, Frame, Event, Trap, Target, Route}
 use Rattle.records.specs.Kinds.{kindOf}
 use Rattle.rows.specs.Rows.{partitionAt, groupAt, subjectAt}
+use Rattle.rows.specs.Lawful.{Fits}
 use Rattle.rows.specs.Lines.{tableOf}
 use Rattle.rows.specs.Lookups.{countsOf, given, partitionGiven, cpuOf, groupGiven, partitionOf, subjectGiven, groupOf, defaultOf}
 use Rattle.rows.specs.KeyPlaces.{eventRow, trapRow, targetRow, routeRow}
@@ -21,7 +22,7 @@ use Rattle.rules.proofs.Fine.{Fair}
 use Rattle.meaning.specs.declared.answer.Route.the-variants.{Nowhere}
 use Rattle.meaning.specs.declared.answer.TargetAction.the-variants.{Nothing}
 use Rattle.meaning.specs.Answers.{routeFrom, sourceFrom, targetFrom, noEvent}
-use Rattle.meaning.specs.Lookups.{routeOf, sourceEvent, trapEvent, targetEvent}
+use Rattle.meaning.specs.Lookups.{routeOf, sourceEvent, defaultEvent, trapEvent, targetEvent}
 use Rattle.meaning.specs.Means.{Has, Tells, hostOf, eventKey, trapKey, targetKey, partitionKey, groupKey, subjectKey, TellsPartitions, TellsGroups, TellsSubjects, Means, Lawful}
 use Rattle.meaning.proofs.Laid.{Laid, laid}
 use Rattle.meaning.proofs.KeyedLaws.{held, given-exactly, rowFor, tells}
@@ -66,16 +67,18 @@ module _ (e : List Record) (f : Fair e) (l : Laid e) where
       (λ k. refl)
       (λ v h. let b = read e f (Event v) h in event-spoken (saidIn (b .earlier) .counts) (saidIn (b .earlier)) v (b .fine .range) (b .fine .placed))
 
-  trap-own : (t : TrapLine) → Has (Trap t) e → t .event ≡ defaultOf (tableOf e) (t .subject) → ⊥
+  trap-own : (t : TrapLine) → Has (Trap t) e → t .event ≡ defaultEvent (tableOf e) (t .subject) → ⊥
+  unfolding defaultEvent kindOf Fits
   trap-own t h q =
       let b = read e f (Trap t) h in
       let o = trap-spoken (b .earlier) t (b .fine .placed) in
-      o .other (sym (subjects .default (o .line) (b .among (Subject (o .line)) (o .among))) ∙ ap (defaultOf (tableOf e)) (o .number) ∙ sym q)
+      let z : t .event ≡ defaultOf (tableOf e) (t .subject) = rw (lt-ltb (t .subject) 16 (fits-among e f (Trap t) h (λ k. omega arith) .0)) at q in
+      o .other (sym (subjects .default (o .line) (b .among (Subject (o .line)) (o .among))) ∙ ap (defaultOf (tableOf e)) (o .number) ∙ sym z)
 
-  traps : Tells Trap trapKey (λ t. t .event) (λ k. defaultOf (tableOf e) (k .0)) (λ k. trapEvent (tableOf e) (k .0) (k .1)) e
+  traps : Tells Trap trapKey (λ t. t .event) (λ k. defaultEvent (tableOf e) (k .0)) (λ k. trapEvent (tableOf e) (k .0) (k .1)) e
   unfolding trapEvent trapRow rowFor
   traps =
-      tells Trap trapKey trapMay trapPlace trapBuilt kept-trap e l (λ t. t .event) (λ k. defaultOf (tableOf e) (k .0)) (λ k. trapEvent (tableOf e) (k .0) (k .1))
+      tells Trap trapKey trapMay trapPlace trapBuilt kept-trap e l (λ t. t .event) (λ k. defaultEvent (tableOf e) (k .0)) (λ k. trapEvent (tableOf e) (k .0) (k .1))
       (λ k. refl) trap-own
 
   targets : Tells Target targetKey targetFrom (λ k. Nothing) (λ k. targetEvent (tableOf e) (k .0) (k .1)) e

@@ -4,3 +4,4 @@ pub mod KeptKinds
 pub mod Spoken
 pub mod FrameLaws
 pub mod Laws
+pub mod Examples

@@ -3,7 +3,7 @@
 use Prim.Native.Nat.{ℕ, zero, suc, _+_}
 use mathlib.Core.Bool.{cond}
 use mathlib.Core.List.{List}
-use lib.Dec.{eqb}
+use lib.Dec.{ltb, eqb}
 use Rattle.rows.specs.Lookups.{defaultOf}
 use Rattle.rows.specs.KeyPlaces.{minorRow, keyedMinor, eventRow, keyedEvent, trapRow, keyedTrap, targetRow, keyedTarget, routeRow, keyedRoute}
 use Rattle.meaning.specs.declared.answer.HostVector.{HostVector}
@@ -23,10 +23,14 @@ unfoldable pub sourceEvent : List ℕ → ℕ → ℕ → SourceEvent
 sourceEvent rows subject event =
     cond (eqb (eventRow rows subject event) 0) noEvent (sourceFrom (keyedEvent subject event (eventRow rows subject event)))
 
+-- the default trap event of a subject; 0 for a number that no subject may have
+unfoldable pub defaultEvent : List ℕ → ℕ → ℕ
+defaultEvent rows subject = cond (ltb subject 16) (defaultOf rows subject) 0
+
 -- "its line's event, or the default"
 unfoldable pub trapEvent : List ℕ → ℕ → ℕ → ℕ
 trapEvent rows subject trap =
-    cond (eqb (trapRow rows subject trap) 0) (defaultOf rows subject) (keyedTrap subject trap (trapRow rows subject trap) .event)
+    cond (eqb (trapRow rows subject trap) 0) (defaultEvent rows subject) (keyedTrap subject trap (trapRow rows subject trap) .event)
 
 unfoldable pub targetEvent : List ℕ → ℕ → ℕ → TargetAction
 targetEvent rows subject event =

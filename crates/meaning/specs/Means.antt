@@ -26,7 +26,7 @@ use Rattle.meaning.specs.declared.answer.Route.the-variants.{Nowhere}
 use Rattle.meaning.specs.declared.answer.TargetAction.the-variants.{Nothing}
 use Rattle.meaning.specs.declared.answer.Frame as minor
 use Rattle.meaning.specs.Answers.{routeFrom, sourceFrom, targetFrom, frameFrom, noEvent, noFrame}
-use Rattle.meaning.specs.Lookups.{routeOf, sourceEvent, trapEvent, targetEvent, frameAt, frameCount}
+use Rattle.meaning.specs.Lookups.{routeOf, sourceEvent, defaultEvent, trapEvent, targetEvent, frameAt, frameCount}
 
 -- a line is among lines
 unfoldable pub Has : Record → List Record → Type 0
@@ -123,7 +123,7 @@ pub record Means (e : List Record) : Type 0 where
   -- "Unlisted source and target events do nothing"
   pub events : Tells Event eventKey sourceFrom (λ k. noEvent) (λ k. sourceEvent (tableOf e) (k .0) (k .1)) e
   -- "its line's event, or the default"
-  pub traps : Tells Trap trapKey (λ t. t .event) (λ k. defaultOf (tableOf e) (k .0)) (λ k. trapEvent (tableOf e) (k .0) (k .1)) e
+  pub traps : Tells Trap trapKey (λ t. t .event) (λ k. defaultEvent (tableOf e) (k .0)) (λ k. trapEvent (tableOf e) (k .0) (k .1)) e
   pub targets : Tells Target targetKey targetFrom (λ k. Nothing) (λ k. targetEvent (tableOf e) (k .0) (k .1)) e
   pub routes : Tells Route hostOf routeFrom (λ k. Nowhere) (routeOf (tableOf e)) e
 

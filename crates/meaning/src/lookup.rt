@@ -3,7 +3,7 @@
 ghost use mathlib.Core.Path.{_≡_};
 ghost use mathlib.Core.Bool.{cond};
 ghost use lib.Dec.{eqb};
-ghost use Rattle.meaning.specs.Lookups.{routeOf, sourceEvent, trapEvent, targetEvent, frameAt, frameCount};
+ghost use Rattle.meaning.specs.Lookups.{routeOf, sourceEvent, defaultEvent, trapEvent, targetEvent, frameAt, frameCount};
 use crate::answer::Action;
 use crate::answer::Frame;
 use crate::answer::HostVector;
@@ -16,6 +16,7 @@ use crate::line::route_from;
 use crate::line::source_from;
 use crate::line::target_from;
 use rows::MINOR_KEYS;
+use rows::SUBJECT_KEYS;
 use rows::default_of;
 use rows::event_row;
 use rows::keyed_event;
@@ -55,13 +56,22 @@ pub fn source_event(rows: &[u64], subject: u8, event: u8) -> SourceEvent
     source_from(line)
 }
 
+fn default_event(rows: &[u64], subject: u8) -> u8
+    ensures { λ r. ⌜ (r ≡ defaultEvent (now (rows .entry)) subject) × (now (rows .exit) ≡ now (rows .entry)) ⌝ }
+{
+    if subject < SUBJECT_KEYS {
+        return default_of(rows, subject);
+    }
+    0
+}
+
 // The source event of a trap: its line's, or the subject's default.
 pub fn trap_event(rows: &[u64], subject: u8, trap: u8) -> u8
     ensures { λ r. ⌜ (r ≡ trapEvent (now (rows .entry)) subject trap) × (now (rows .exit) ≡ now (rows .entry)) ⌝ }
 {
     let row = trap_row(rows, subject, trap);
     if row == 0 {
-        return default_of(rows, subject);
+        return default_event(rows, subject);
     }
     let line = keyed_trap(subject, trap, row);
     line.event

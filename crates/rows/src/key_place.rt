@@ -21,7 +21,7 @@ use records::TrapLine;
 
 // How many keys document 01 has: subjects, and of each its events, traps and target events; majors, CPUs, and of a pair its
 // minor frames.
-const SUBJECT_KEYS: u8 = 16;
+pub const SUBJECT_KEYS: u8 = 16;
 
 const EVENT_KEYS: u8 = 16;
 

@@ -9,6 +9,7 @@ pub mod row;
 pub mod table;
 
 pub use key_place::MINOR_KEYS;
+pub use key_place::SUBJECT_KEYS;
 pub use key_place::event_row;
 pub use key_place::keyed_event;
 pub use key_place::keyed_minor;

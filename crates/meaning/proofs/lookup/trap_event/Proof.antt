@@ -9,12 +9,12 @@ use Rattle.meaning.specs.Lookups.{trapEvent}
 trap-row-requires : tie.Need-trap-row-requires
 trap-row-requires c κs = search needs
 
-default-of-requires : tie.Need-default-of-requires
-default-of-requires c κs = search needs
+default-event-requires : tie.Need-default-event-requires
+default-event-requires c κs = search needs
 
 returns : tie.Need-returns
 unfolding trapEvent
-returns c = (c .default-of .ensures .0 ∙ rw (eq-eqb _ 0 (sym (c .before .before .trap-row .ensures .0) ∙ c .before .if1 .taken)), refl)
+returns c = (c .default-event .ensures .0 ∙ rw (eq-eqb _ 0 (sym (c .before .before .trap-row .ensures .0) ∙ c .before .if1 .taken)), refl)
 
 keyed-trap-requires : tie.Need-keyed-trap-requires
 keyed-trap-requires c κs = search needs
@@ -26,4 +26,4 @@ returns-2 c = (rw (c .keyed-trap .ensures, c .before .before .trap-row .ensures 
 pub trap-event-spec : {M : Type 1} → statement M
 trap-event-spec =
     tie.close
-    (tie.spec trap-row-requires default-of-requires returns keyed-trap-requires returns-2)
+    (tie.spec trap-row-requires default-event-requires returns keyed-trap-requires returns-2)
