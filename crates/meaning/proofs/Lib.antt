@@ -1,0 +1,7 @@
+pub mod Laid
+pub mod KeyedLaws
+pub mod KeptKinds
+pub mod Spoken
+pub mod FrameLaws
+pub mod Laws
+pub mod Examples
