@@ -1,0 +1,2 @@
+pub mod WhenRead
+pub mod Numbers
