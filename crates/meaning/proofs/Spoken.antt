@@ -76,7 +76,7 @@ target-spoken n t r q =
 
 -- ---- 06
 
-neither-of : (a b : Bool) → (a || b) ≡ false → (a ≡ false) × (b ≡ false)
+pub neither-of : (a b : Bool) → (a || b) ≡ false → (a ≡ false) × (b ≡ false)
 neither-of true b q = let z : _≡_ {A = ℕ} 0 1 = cc in absurd (omega arith)
 neither-of false b q = (refl, q)
 
