@@ -171,13 +171,13 @@ irq-back irq s =
 -- a target subject and a target event, or neither
 whole-target : (s event kick : ℕ) → cond (not (eqb s 255)) (eqb event 255) (not (eqb event 255)) ≡ false → signalSubject (signalFrom s event kick) ≡ s
 unfolding signalSubject signalFrom
-whole-target s event kick = go (eqb s 255) (eqb event 255) refl
+whole-target s event kick = go (eqb s 255) (eqb event 255) _ refl
   where
-    go : (h t : Bool) → eqb s 255 ≡ h → cond (not h) t (not t) ≡ false → signalSubject (cond t signal.Nothing (signal.To s event (eqb kick 1))) ≡ s
-    go true true p q = sym (eqb-true s 255 p)
-    go true false p q = refl
-    go false true p q = let z : _≡_ {A = ℕ} 0 1 = cc in absurd (omega arith)
-    go false false p q = refl
+    go : (h t b : Bool) → eqb s 255 ≡ h → cond (not h) t (not t) ≡ false → signalSubject (cond t signal.Nothing (signal.To s event b)) ≡ s
+    go true true b p q = sym (eqb-true s 255 p)
+    go true false b p q = refl
+    go false true b p q = let z : _≡_ {A = ℕ} 0 1 = cc in absurd (omega arith)
+    go false false b p q = refl
 
 target-of : (irq s event kick n : ℕ) → n ≤ 7 → cond (not (eqb s 255)) (not (eqb n 3) && eqb event 255) (not (eqb n 3) && not (eqb event 255)) ≡ false
     → targetOf (actionFrom n irq s) (signalSubject (signalFrom s event kick)) ≡ s
