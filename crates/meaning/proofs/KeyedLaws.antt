@@ -17,6 +17,7 @@ use Rattle.rows.specs.Rows.{rowOf, recordAt}
 use Rattle.rows.specs.Lawful.{Fits, Room}
 use Rattle.rows.specs.Lines.{tableOf}
 use Rattle.rows.proofs.RowLaws.{back, some}
+use Rattle.rules.proofs.Fine.{Fair}
 use Rattle.meaning.specs.Means.{Has, Listed, Unlisted, Tells}
 use Rattle.meaning.proofs.Laid.{Keyed, Stands, Laid}
 
@@ -100,9 +101,10 @@ unfoldable pub rowFor : {Key : Type 0} → (Key → Bool) → (Key → ℕ) → 
 rowFor may place e k = cond (may k) (getD (tableOf e) (place k) 0) 0
 
 module _ {Line Key Answer : Type 0} (line : Line → Record) (key : Line → Key) (may : Key → Bool) (place : Key → ℕ) (build : Key → ℕ → Line)
-    (kept : Kept line key may place build) (e : List Record) (l : Laid e) (says : Line → Answer) (nothing look : Key → Answer)
+    (kept : Kept line key may place build) (e : List Record) (f : Fair e) (l : Laid e) (says : Line → Answer) (nothing look : Key → Answer)
     (shape : (k : Key) → look k ≡ cond (eqb (rowFor may place e k) 0) (nothing k) (says (build k (rowFor may place e k))))
-    (spoken : (w : Line) → Has (line w) e → says w ≡ nothing (key w) → ⊥) where
+    (spoken : (w : Line) → Has (line w) e → says w ≡ nothing (key w) → ⊥)
+    (unsaid : Key → Answer → Line) (whole : (d : List Record) → Fair d → (w : Line) → Has (line w) d → unsaid (key w) (says w) ≡ w) where
   answer : (k : Key) (row : ℕ) → rowFor may place e k ≡ row → look k ≡ cond (eqb row 0) (nothing k) (says (build k row))
   answer k row q = shape k ∙ ap (λ (n : ℕ). cond (eqb n 0) (nothing k) (says (build k n))) q
 
@@ -140,6 +142,7 @@ module _ {Line Key Answer : Type 0} (line : Line → Record) (key : Line → Key
         found = found;
         by = λ k d. by k d (every k);
         unlisted = λ k. (λ u. none k u (every k), λ z w h q. spoken w h (sym (found w h) ∙ ap look q ∙ z ∙ ap nothing (sym q)));
+        exactly = λ d g w h n q. exactly d g w h n q (every (key w));
       }
     where
       by : (k : Key) → (look k ≡ nothing k → ⊥) → ((listed : Listed line key e k) × (says (listed .said) ≡ look k)) ⊎ (Unlisted line key e k × (look k ≡ nothing k))
@@ -150,3 +153,10 @@ module _ {Line Key Answer : Type 0} (line : Line → Record) (key : Line → Key
       none : (k : Key) → Unlisted line key e k → ((listed : Listed line key e k) × (says (listed .said) ≡ look k)) ⊎ (Unlisted line key e k × (look k ≡ nothing k)) → look k ≡ nothing k
       none k u (inl t) = absurd (u (t .0 .said) (t .0 .among) (t .0 .keyed))
       none k u (inr t) = t .1
+
+      exactly : (d : List Record) → Fair d → (w : Line) → Has (line w) d → (look (key w) ≡ nothing (key w) → ⊥) → look (key w) ≡ says w
+          → ((listed : Listed line key e (key w)) × (says (listed .said) ≡ look (key w))) ⊎ (Unlisted line key e (key w) × (look (key w) ≡ nothing (key w))) → Has (line w) e
+      exactly d g w h n q (inl (t, r)) =
+          let same : line (t .said) ≡ line w = ap line (sym (whole e f (t .said) (t .among)) ∙ ap₂ unsaid (t .keyed) (r ∙ q) ∙ whole d g w h) in
+          rw same at (t .among)
+      exactly d g w h n q (inr u) = absurd (n (u .1))

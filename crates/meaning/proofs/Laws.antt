@@ -1,5 +1,5 @@
 -- The policy means its text: each lookup reads the row of a key, the row is that of the line that has the key, and an accepted line says
--- something. The generic laws are `KeyedLaws`, the kinds `KeptKinds`, minor frames `FrameLaws`.
+-- something (`Spoken`) and loses nothing (`Whole`). The generic laws are `KeyedLaws`, the kinds `KeptKinds`, minor frames `FrameLaws`.
 use mathlib.Core.List.{List}
 use mathlib.Core.Path.{_≡_, refl, ap, sym, _∙_}
 use native.Mathlib.Omega.{arith}
@@ -28,6 +28,7 @@ use Rattle.meaning.proofs.Laid.{Laid, laid}
 use Rattle.meaning.proofs.KeyedLaws.{held, given-exactly, rowFor, tells}
 use Rattle.meaning.proofs.KeptKinds.{headerKey, headerMay, headerPlace, headerBuilt, kept-header, partitionMay, partitionPlace, kept-partition, groupMay, groupPlace, kept-group, subjectMay, subjectPlace, kept-subject, eventMay, eventPlace, eventBuilt, kept-event, trapMay, trapPlace, trapBuilt, kept-trap, targetMay, targetPlace, targetBuilt, kept-target, routeMay, routePlace, routeBuilt, kept-route}
 use Rattle.meaning.proofs.Spoken.{read, fits-among, route-spoken, target-spoken, event-spoken, trap-spoken}
+use Rattle.meaning.proofs.Whole.{routeBack, route-back, trapBack, trap-back, targetBack, target-back, eventBack, event-back}
 use Rattle.meaning.proofs.FrameLaws.{tells-frames}
 
 module _ (e : List Record) (f : Fair e) (l : Laid e) where
@@ -63,9 +64,11 @@ module _ (e : List Record) (f : Fair e) (l : Laid e) where
   events : Tells Event eventKey sourceFrom (λ k. noEvent) (λ k. sourceEvent (tableOf e) (k .0) (k .1)) e
   unfolding sourceEvent eventRow rowFor
   events =
-      tells Event eventKey eventMay eventPlace eventBuilt kept-event e l sourceFrom (λ k. noEvent) (λ k. sourceEvent (tableOf e) (k .0) (k .1))
+      tells Event eventKey eventMay eventPlace eventBuilt kept-event e f l sourceFrom (λ k. noEvent) (λ k. sourceEvent (tableOf e) (k .0) (k .1))
       (λ k. refl)
       (λ v h. let b = read e f (Event v) h in event-spoken (saidIn (b .earlier) .counts) (saidIn (b .earlier)) v (b .fine .range) (b .fine .placed))
+      eventBack
+      (λ d g v h. let b = read d g (Event v) h in event-back (saidIn (b .earlier) .counts) (saidIn (b .earlier)) v (b .fine .range) (b .fine .placed))
 
   trap-own : (t : TrapLine) → Has (Trap t) e → t .event ≡ defaultEvent (tableOf e) (t .subject) → ⊥
   unfolding defaultEvent kindOf Fits
@@ -78,21 +81,23 @@ module _ (e : List Record) (f : Fair e) (l : Laid e) where
   traps : Tells Trap trapKey (λ t. t .event) (λ k. defaultEvent (tableOf e) (k .0)) (λ k. trapEvent (tableOf e) (k .0) (k .1)) e
   unfolding trapEvent trapRow rowFor
   traps =
-      tells Trap trapKey trapMay trapPlace trapBuilt kept-trap e l (λ t. t .event) (λ k. defaultEvent (tableOf e) (k .0)) (λ k. trapEvent (tableOf e) (k .0) (k .1))
-      (λ k. refl) trap-own
+      tells Trap trapKey trapMay trapPlace trapBuilt kept-trap e f l (λ t. t .event) (λ k. defaultEvent (tableOf e) (k .0)) (λ k. trapEvent (tableOf e) (k .0) (k .1))
+      (λ k. refl) trap-own trapBack (λ d g t h. trap-back t)
 
   targets : Tells Target targetKey targetFrom (λ k. Nothing) (λ k. targetEvent (tableOf e) (k .0) (k .1)) e
   unfolding targetEvent targetRow rowFor
   targets =
-      tells Target targetKey targetMay targetPlace targetBuilt kept-target e l targetFrom (λ k. Nothing) (λ k. targetEvent (tableOf e) (k .0) (k .1))
+      tells Target targetKey targetMay targetPlace targetBuilt kept-target e f l targetFrom (λ k. Nothing) (λ k. targetEvent (tableOf e) (k .0) (k .1))
       (λ k. refl)
       (λ t h. let b = read e f (Target t) h in target-spoken (saidIn (b .earlier) .counts) t (b .fine .range))
+      targetBack
+      (λ d g t h. let b = read d g (Target t) h in target-back (saidIn (b .earlier) .counts) t (b .fine .range))
 
   routes : Tells Route hostOf routeFrom (λ k. Nowhere) (routeOf (tableOf e)) e
   unfolding routeOf routeRow rowFor
   routes =
-      tells Route hostOf routeMay routePlace routeBuilt kept-route e l routeFrom (λ k. Nowhere) (routeOf (tableOf e))
-      (λ k. refl) (λ w h. route-spoken w)
+      tells Route hostOf routeMay routePlace routeBuilt kept-route e f l routeFrom (λ k. Nowhere) (routeOf (tableOf e))
+      (λ k. refl) (λ w h. route-spoken w) routeBack (λ d g w h. route-back w)
 
   means : Means e
   unfolding kindOf

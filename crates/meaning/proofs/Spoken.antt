@@ -27,6 +27,7 @@ use Rattle.meaning.specs.declared.answer.SubjectVector.{SubjectVector}
 use Rattle.meaning.specs.declared.answer.Route.the-variants.{Nowhere}
 use Rattle.meaning.specs.declared.answer.Action.{Action}
 use Rattle.meaning.specs.declared.answer.Action.the-variants as action
+use Rattle.meaning.specs.declared.answer.Signal.{Signal}
 use Rattle.meaning.specs.declared.answer.Signal.the-variants as signal
 use Rattle.meaning.specs.declared.answer.SourceEvent.{SourceEvent}
 use Rattle.meaning.specs.declared.answer.TargetAction.the-variants as target
@@ -76,7 +77,7 @@ target-spoken n t r q =
 
 -- ---- 06
 
-neither-of : (a b : Bool) → (a || b) ≡ false → (a ≡ false) × (b ≡ false)
+pub neither-of : (a b : Bool) → (a || b) ≡ false → (a ≡ false) × (b ≡ false)
 neither-of true b q = let z : _≡_ {A = ℕ} 0 1 = cc in absurd (omega arith)
 neither-of false b q = (refl, q)
 
@@ -104,10 +105,9 @@ idle n irq s l =
 
 signalled : (s event kick : ℕ) → eqb event none ≡ false → signalFrom s event kick ≡ signal.Nothing → ⊥
 unfolding signalFrom
-signalled s event kick t q =
-    let z : signal.To s event (eqb kick 1) ≡ signal.Nothing = rw t at q in
-    let y : _≡_ {A = ℕ} 0 1 = cc in
-    omega arith
+signalled s event kick t =
+    by-cond (λ (x : Signal). x ≡ signal.Nothing → ⊥) (eqb event none) _ _
+    (λ u q. let z : _≡_ {A = ℕ} 0 1 = cc in omega arith) (λ u q. let z : _≡_ {A = ℕ} 0 1 = cc in omega arith)
 
 -- action 0 has a target, and with it a target event
 targeted : (t h : Bool) → ((false && h) || (true && not h)) ≡ false → cond h (true && t) (true && not t) ≡ false → t ≡ false

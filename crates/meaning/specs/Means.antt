@@ -51,6 +51,8 @@ pub record Tells {Line Key Answer : Type 0} (line : Line → Record) (key : Line
   pub by : (k : Key) → (look k ≡ nothing k → ⊥) → (listed : Listed line key e k) × (says (listed .said) ≡ look k)
   -- it says nothing exactly where no line has the key
   pub unlisted : (k : Key) → Unlisted line key e k ↔ (look k ≡ nothing k)
+  -- a line, of these or other accepted lines, that says what is said at its key is among these: no field of it is lost
+  pub exactly : (d : List Record) → Fair d → (w : Line) → Has (line w) d → (look (key w) ≡ nothing (key w) → ⊥) → look (key w) ≡ says w → Has (line w) e
 
 -- ---- keys
 
