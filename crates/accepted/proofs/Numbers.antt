@@ -16,7 +16,7 @@ use Rattle.records.specs.declared.kind.Record.the-variants.{Header, Partition, 
 use Rattle.records.specs.Kinds.{kindOf, bytesOf, headerIn}
 use Rattle.rules.specs.declared.refusal.Verdict.the-variants.{Accepted}
 use Rattle.rules.specs.Said.{Said, saidIn, lastKind, lineWith, headerLine, some}
-use Rattle.rules.specs.Rules.{countsInRange, inRange, allBelow, anyBelow, allGiven, hasGroup, hasSubject, allUsed, allFramed, complete, incomplete, verdict, wrongKind}
+use Rattle.rules.specs.Rules.{countsInRange, inRange, allBelow, anyBelow, allGiven, hasGroup, hasSubject, allUsed, allFramed, complete, incomplete, even, uneven, verdict, wrongKind}
 use Rattle.rules.proofs.Fine.{Fair, fine}
 use Rattle.rules.proofs.Order.{kind-some}
 use Rattle.rules.proofs.Same.{Small, small}
@@ -69,7 +69,7 @@ header-range h t =
     range n most q = let r = both (leb 1 n) (leb n most) q in (leb-true 1 n (r .0), leb-true n most (r .1))
 
 -- a line that is no header stands behind another
-behind-one : (e : List Record) (r : Record) → verdict e r ≡ Accepted → (kindOf r ≡ 1 → ⊥) → lastKind e ≡ 0 → ⊥
+pub behind-one : (e : List Record) (r : Record) → verdict e r ≡ Accepted → (kindOf r ≡ 1 → ⊥) → lastKind e ≡ 0 → ⊥
 unfolding lastKind wrongKind
 behind-one [] r v k q = k (eqb-true (kindOf r) 1 (not-false (eqb (kindOf r) 1) (fine [] r v .kind)))
 behind-one (last ∷ e) r v k q = kind-some last q
@@ -127,14 +127,15 @@ pub record Ended (e : List Record) : Type 0 where
   pub given : allGiven (saidIn e) ≡ true
   pub used : allUsed (saidIn e) ≡ true
   pub framed : allFramed (saidIn e) ≡ true
+  pub even : even (saidIn e) ≡ true
 
 pub ended : (e : List Record) (count : ℕ) → verdict e (End count) ≡ Accepted → Ended e
-unfolding incomplete complete
+unfolding incomplete complete uneven
 ended e count v =
     let a = both (eqb count (length e)) _ (not-false _ (fine e (End count) v .full)) in
     let b = both (allGiven (saidIn e)) _ (a .1) in
     let c = both (allUsed (saidIn e)) _ (b .1) in
-    record { given = b .0; used = c .0; framed = c .1 }
+    record { given = b .0; used = c .0; framed = c .1; even = not-false _ (fine e (End count) v .even) }
 
 module _ (e : List Record) (f : Fair e) (d : Ended e) where
   all-given : (allBelow (saidIn e .counts .partitions) (saidIn e .partitionGiven) ≡ true)

@@ -134,7 +134,7 @@ counted rows m c lines h (suc n) = go (counted rows m c lines h n) (decLt n (len
 -- ---- what each row says
 
 -- what is said by a row
-frameIn : ℕ → minor.Frame
+pub frameIn : ℕ → minor.Frame
 frameIn row = cond (eqb row 0) noFrame (record { partition = row / 65536 % 256; length = row % 65536 })
 
 frame-in : (rows : List ℕ) (m c i : ℕ) → frameAt rows m c i ≡ frameIn (minorRow rows m c i)
@@ -154,7 +154,7 @@ line-frame f l =
     rw (ne-eqb row 0 (λ z. omega arith), p, q)
 
 -- the last of a list
-get-last : (xs : List minor.Frame) (x d : minor.Frame) (i : ℕ) → getD (xs ++ (x ∷ [])) i d ≡ cond (eqb (length xs) i) x (getD xs i d)
+pub get-last : (xs : List minor.Frame) (x d : minor.Frame) (i : ℕ) → getD (xs ++ (x ∷ [])) i d ≡ cond (eqb (length xs) i) x (getD xs i d)
 get-last [] x d zero = refl
 get-last [] x d (suc i) = rw (ne-eqb 0 (suc i) (λ z. omega arith))
 get-last (y ∷ xs) x d zero = rw (ne-eqb (suc (length xs)) 0 (λ z. omega arith))
@@ -168,9 +168,9 @@ get-last (y ∷ xs) x d (suc i) = get-last xs x d i ∙ ap (λ (t : Bool). cond 
         go false q = sym (ne-eqb (suc a) (suc b) (λ z. eqb-false a b q (omega arith)))
 
 -- lines and what they say, side by side
-record Side (lines : List (List ℕ)) (said : List minor.Frame) : Type 0 where
-  many : length lines ≡ length said
-  each : (i : ℕ) → frameIn (rowBehind lines i) ≡ getD said i noFrame
+pub record Side (lines : List (List ℕ)) (said : List minor.Frame) : Type 0 where
+  pub many : length lines ≡ length said
+  pub each : (i : ℕ) → frameIn (rowBehind lines i) ≡ getD said i noFrame
 
 side-more : (line : List ℕ) (x : minor.Frame) (lines : List (List ℕ)) (said : List minor.Frame) → frameIn (frameRow line) ≡ x → Side lines said → Side (line ∷ lines) (said ++ (x ∷ []))
 unfolding rowBehind
@@ -203,7 +203,7 @@ side-frame m c f e q s = go (eqb (f .major) m && eqb (f .cpu) c)
     go true = side-more (bytesOf (Frame f)) (frameFrom f) (framesOf m c e) (minorsIn m c e) q s
     go false = s
 
-side : (m c : ℕ) (e : List Record) → ((f : FrameLine) → Has (Frame f) e → Fits (Frame f)) → Side (framesOf m c e) (minorsIn m c e)
+pub side : (m c : ℕ) (e : List Record) → ((f : FrameLine) → Has (Frame f) e → Fits (Frame f)) → Side (framesOf m c e) (minorsIn m c e)
 unfolding framesOf minorsIn kindOf Has
 side m c [] h = side-none
 side m c (Header x ∷ e) h = side m c e (λ f k. h f (inr k))

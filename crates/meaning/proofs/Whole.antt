@@ -35,7 +35,7 @@ use Rattle.meaning.proofs.Spoken.{neither-of}
 
 -- ---- 09
 
-irqOf : Masking → ℕ
+unfoldable pub irqOf : Masking → ℕ
 irqOf NoLine = 255
 irqOf (Line l) = l .0
 
@@ -43,7 +43,7 @@ masking-back : (irq : ℕ) → irqOf (maskingFrom irq) ≡ irq
 unfolding maskingFrom irqOf
 masking-back irq = by-cond (λ (x : Masking). irqOf x ≡ irq) (eqb irq 255) _ _ (λ t. sym (eqb-true irq 255 t)) (λ t. refl)
 
-pub routeBack : HostVector → route.Route → RouteLine
+unfoldable pub routeBack : HostVector → route.Route → RouteLine
 routeBack k Nowhere = record { host = k .0; subject = 0; vector = 0; irq = 0 }
 routeBack k (To s v l) = record { host = k .0; subject = s; vector = v .0; irq = irqOf l }
 
@@ -62,7 +62,7 @@ trap-back t = refl
 
 -- ---- 08
 
-pub targetBack : ℕ × ℕ → TargetAction → TargetLine
+unfoldable pub targetBack : ℕ × ℕ → TargetAction → TargetLine
 targetBack k target.Nothing = record { subject = k .0; event = k .1; action = 0; vector = 0 }
 targetBack k (target.Inject v) = record { subject = k .0; event = k .1; action = 1; vector = v .0 }
 targetBack k target.Reset = record { subject = k .0; event = k .1; action = 2; vector = 0 }
@@ -87,7 +87,7 @@ target-back n t r =
 -- ---- 06
 
 -- the number of an action
-numberOf : Action → ℕ
+unfoldable pub numberOf : Action → ℕ
 numberOf action.Nothing = 0
 numberOf action.Sleep = 1
 numberOf action.Yield = 2
@@ -98,7 +98,7 @@ numberOf action.PowerOff = 6
 numberOf action.Panic = 7
 
 -- its IRQ line
-unmasked : Action → ℕ
+unfoldable pub unmasked : Action → ℕ
 unmasked action.Nothing = 255
 unmasked action.Sleep = 255
 unmasked action.Yield = 255
@@ -109,7 +109,7 @@ unmasked action.PowerOff = 255
 unmasked action.Panic = 255
 
 -- the target subject: that of a handover, else that of the target event
-targetOf : Action → ℕ → ℕ
+unfoldable pub targetOf : Action → ℕ → ℕ
 targetOf action.Nothing other = other
 targetOf action.Sleep other = other
 targetOf action.Yield other = other
@@ -119,19 +119,19 @@ targetOf action.Reboot other = other
 targetOf action.PowerOff other = other
 targetOf action.Panic other = other
 
-signalSubject : Signal → ℕ
+unfoldable pub signalSubject : Signal → ℕ
 signalSubject signal.Nothing = 255
 signalSubject (signal.To s event kick) = s
 
-signalEvent : Signal → ℕ
+unfoldable pub signalEvent : Signal → ℕ
 signalEvent signal.Nothing = 255
 signalEvent (signal.To s event kick) = event
 
-signalKick : Signal → ℕ
+unfoldable pub signalKick : Signal → ℕ
 signalKick signal.Nothing = 0
 signalKick (signal.To s event kick) = cond kick 1 0
 
-pub eventBack : ℕ × ℕ → SourceEvent → EventLine
+unfoldable pub eventBack : ℕ × ℕ → SourceEvent → EventLine
 eventBack k x =
     record {
       subject = k .0;
