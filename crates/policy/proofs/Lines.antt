@@ -26,7 +26,7 @@ use Rattle.rules.specs.Rules.{verdict}
 use Rattle.rules.proofs.Fine.{Fair}
 use Rattle.policy.specs.declared.value.Policy.{Policy}
 use Rattle.policy.specs.declared.reader.Reading.{Reading}
-use Rattle.policy.specs.Reads.{longestText, linesOf, refusal, acceptance, policyOf, atEnd, onward, noRecord, judge, readOf}
+use Rattle.policy.specs.Reads.{longestText, linesOf, refusal, acceptance, policyOf, atEnd, onward, noRecord, judge, readOf, recordsIn, recordsOf}
 use Rattle.policy.specs.Writes.{textsOf}
 use Rattle.policy.proofs.ReadLaws.{lines-none, judge-got, judge-ill-formed, judge-wrong-kind}
 
@@ -151,3 +151,18 @@ accepted-judge text p =
 
 pub accepted-written : (text : List ℕ) (p : Policy) → readOf text ≡ acceptance p → Written text [] p
 accepted-written text p q = written-up-to (length text) text [] p (omega arith) (accepted-judge text p q)
+
+-- an accepted text's records are accepted one after the other, and give the policy
+judged-lines : (lines : List RecordLine) (e : List Record) (p : Policy) → Fair e → judge e lines ≡ acceptance p → Judged (recordsIn lines) e p
+unfolding judge recordsIn onto Fair
+judged-lines [] e p f q = let a = at-end e p q in record { fair = f; ended = a .0; policy = a .1 }
+judged-lines (Got r end ∷ lines) e p f q =
+    let a = onward-accepted (verdict e r) _ p q in
+    let j = judged-lines lines (r ∷ e) p (f, a .0) (a .1) in
+    record { fair = j .fair; ended = j .ended; policy = j .policy }
+judged-lines (IllFormedLine ∷ lines) e p f q = absurd (no-record-refused IllFormedLine (length e + 1) p q)
+judged-lines (WrongKindLine ∷ lines) e p f q = absurd (no-record-refused WrongKindLine (length e + 1) p q)
+
+pub accepted-records : (text : List ℕ) (p : Policy) → readOf text ≡ acceptance p → Judged (recordsOf text) [] p
+unfolding recordsOf Fair
+accepted-records text p q = judged-lines (linesOf text) [] p tt (accepted-judge text p q)

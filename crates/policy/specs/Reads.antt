@@ -39,6 +39,16 @@ linesUpTo (suc n) (b ∷ text) =
 unfoldable pub linesOf : List ℕ → List RecordLine
 linesOf text = linesUpTo (length text) text
 
+-- the records of some lines, and of a text, in its order
+unfoldable pub recordsIn : List RecordLine → List Record
+recordsIn [] = []
+recordsIn (Got r end ∷ lines) = r ∷ recordsIn lines
+recordsIn (IllFormedLine ∷ lines) = recordsIn lines
+recordsIn (WrongKindLine ∷ lines) = recordsIn lines
+
+unfoldable pub recordsOf : List ℕ → List Record
+recordsOf text = recordsIn (linesOf text)
+
 -- "Beside a reader's refusal the policy handed back is all zeros"
 unfoldable pub zeroPolicy : Policy
 zeroPolicy = record { rows = replicate rowCount 0 }

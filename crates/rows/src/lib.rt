@@ -2,11 +2,24 @@
 // exactly as lines do; what stands there is the line's row, 0 where there is no such line.
 ghost use Rattle.rows.specs.Lawful.{Lawful};
 
+pub mod key_place;
 pub mod lookup;
 pub mod place;
 pub mod row;
 pub mod table;
 
+pub use key_place::MINOR_KEYS;
+pub use key_place::SUBJECT_KEYS;
+pub use key_place::event_row;
+pub use key_place::keyed_event;
+pub use key_place::keyed_minor;
+pub use key_place::keyed_route;
+pub use key_place::keyed_target;
+pub use key_place::keyed_trap;
+pub use key_place::minor_row;
+pub use key_place::route_row;
+pub use key_place::target_row;
+pub use key_place::trap_row;
 pub use lookup::counts_of;
 pub use lookup::cpu_of;
 pub use lookup::default_of;

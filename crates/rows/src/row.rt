@@ -93,7 +93,7 @@ fn subject_at(key: usize, row: u64) -> SubjectLine
     }
 }
 
-fn frame_at(key: usize, row: u64) -> FrameLine
+pub(crate) fn frame_at(key: usize, row: u64) -> FrameLine
     ensures { λ r. ⌜ r ≡ frameAt key row ⌝ }
 {
     FrameLine {
@@ -104,7 +104,7 @@ fn frame_at(key: usize, row: u64) -> FrameLine
     }
 }
 
-fn event_at(key: usize, row: u64) -> EventLine
+pub(crate) fn event_at(key: usize, row: u64) -> EventLine
     ensures { λ r. ⌜ r ≡ eventAt key row ⌝ }
 {
     EventLine {
@@ -118,7 +118,7 @@ fn event_at(key: usize, row: u64) -> EventLine
     }
 }
 
-fn trap_at(key: usize, row: u64) -> TrapLine
+pub(crate) fn trap_at(key: usize, row: u64) -> TrapLine
     ensures { λ r. ⌜ r ≡ trapAt key row ⌝ }
 {
     TrapLine {
@@ -128,7 +128,7 @@ fn trap_at(key: usize, row: u64) -> TrapLine
     }
 }
 
-fn target_at(key: usize, row: u64) -> TargetLine
+pub(crate) fn target_at(key: usize, row: u64) -> TargetLine
     ensures { λ r. ⌜ r ≡ targetAt key row ⌝ }
 {
     TargetLine {
@@ -139,7 +139,7 @@ fn target_at(key: usize, row: u64) -> TargetLine
     }
 }
 
-fn route_at(key: usize, row: u64) -> RouteLine
+pub(crate) fn route_at(key: usize, row: u64) -> RouteLine
     ensures { λ r. ⌜ r ≡ routeAt key row ⌝ }
 {
     RouteLine {

@@ -25,7 +25,7 @@ use Rattle.rules.specs.Said.{framesOf, sumOf}
 use Rattle.rules.proofs.Frames.{Counted, off-frames, frame-or, frames-skip, frames-same, frames-apart, frame-place, Steady}
 
 -- the row of a 05 line
-pub frameRow : List ℕ → ℕ
+unfoldable pub frameRow : List ℕ → ℕ
 frameRow line = (256 + getD line 3 0) * 65536 + (getD line 4 0 * 256 + getD line 5 0)
 
 -- the row of the line that has i before it
@@ -161,7 +161,7 @@ short-of (r ∷ e) s m c =
         go (inl (g, q)) = let l : Fits (Frame g) = rw q at f in rw q (omega arith)
         go (inr d) = absurd (d k)
 
-past-rows : (lines : List (List ℕ)) (i : ℕ) → length lines ≤ i → rowBehind lines i ≡ 0
+pub past-rows : (lines : List (List ℕ)) (i : ℕ) → length lines ≤ i → rowBehind lines i ≡ 0
 unfolding rowBehind
 past-rows [] i l = refl
 past-rows (line ∷ lines) i l = rw (ne-eqb (length lines) i (λ z. omega arith)) (past-rows lines i (omega arith))

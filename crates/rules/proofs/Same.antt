@@ -105,56 +105,56 @@ header-said (r ∷ e) p = go (header-or r) (header-said e (p .0))
 
 -- ---- what a line of kinds 02, 03 and 04 says is small
 
-pub record Small (r : Record) : Type 0 where
-  pub cpu : kindOf r ≡ 2 → getD (bytesOf r) 2 0 < 8
-  pub partition : kindOf r ≡ 3 → getD (bytesOf r) 2 0 < 8
-  pub group : kindOf r ≡ 4 → getD (bytesOf r) 2 0 < 16
+pub record Small (n : Counts) (r : Record) : Type 0 where
+  pub cpu : kindOf r ≡ 2 → getD (bytesOf r) 2 0 < n .cpus
+  pub partition : kindOf r ≡ 3 → getD (bytesOf r) 2 0 < n .partitions
+  pub group : kindOf r ≡ 4 → getD (bytesOf r) 2 0 < n .groups
   pub default : kindOf r ≡ 4 → getD (bytesOf r) 3 0 < 16
 
-small : (n : Counts) → CountsFit n → (r : Record) → inRange n r ≡ true → Small r
+pub small : (n : Counts) (r : Record) → inRange n r ≡ true → Small n r
 unfolding kindOf bytesOf inRange partitionInRange groupInRange subjectInRange
-small n f (Header x) t = record { cpu = λ q. absurd (omega arith); partition = λ q. absurd (omega arith); group = λ q. absurd (omega arith); default = λ q. absurd (omega arith) }
-small n f (Partition p) t =
+small n (Header x) t = record { cpu = λ q. absurd (omega arith); partition = λ q. absurd (omega arith); group = λ q. absurd (omega arith); default = λ q. absurd (omega arith) }
+small n (Partition p) t =
     let x : p .cpu < n .cpus = ltb-true _ _ (both (ltb (p .number) (n .partitions)) _ t .1) in
     record { cpu = λ q. omega arith; partition = λ q. absurd (omega arith); group = λ q. absurd (omega arith); default = λ q. absurd (omega arith) }
-small n f (Group g) t =
+small n (Group g) t =
     let x : g .partition < n .partitions = ltb-true _ _ (both (ltb (g .number) (n .groups)) _ t .1) in
     record { cpu = λ q. absurd (omega arith); partition = λ q. omega arith; group = λ q. absurd (omega arith); default = λ q. absurd (omega arith) }
-small n f (Subject s) t =
+small n (Subject s) t =
     let a = both (ltb (s .number) (n .subjects)) _ t in
     let b = both (ltb (s .group) (n .groups)) _ (a .1) in
     let x : s .group < n .groups = ltb-true _ _ (b .0) in
     let y : s .«default_event» ≤ 15 = leb-true _ _ (b .1) in
     record { cpu = λ q. absurd (omega arith); partition = λ q. absurd (omega arith); group = λ q. omega arith; default = λ q. omega arith }
-small n f (Frame x) t = record { cpu = λ q. absurd (omega arith); partition = λ q. absurd (omega arith); group = λ q. absurd (omega arith); default = λ q. absurd (omega arith) }
-small n f (Event x) t = record { cpu = λ q. absurd (omega arith); partition = λ q. absurd (omega arith); group = λ q. absurd (omega arith); default = λ q. absurd (omega arith) }
-small n f (Trap x) t = record { cpu = λ q. absurd (omega arith); partition = λ q. absurd (omega arith); group = λ q. absurd (omega arith); default = λ q. absurd (omega arith) }
-small n f (Target x) t = record { cpu = λ q. absurd (omega arith); partition = λ q. absurd (omega arith); group = λ q. absurd (omega arith); default = λ q. absurd (omega arith) }
-small n f (Route x) t = record { cpu = λ q. absurd (omega arith); partition = λ q. absurd (omega arith); group = λ q. absurd (omega arith); default = λ q. absurd (omega arith) }
-small n f (End x) t = record { cpu = λ q. absurd (omega arith); partition = λ q. absurd (omega arith); group = λ q. absurd (omega arith); default = λ q. absurd (omega arith) }
+small n (Frame x) t = record { cpu = λ q. absurd (omega arith); partition = λ q. absurd (omega arith); group = λ q. absurd (omega arith); default = λ q. absurd (omega arith) }
+small n (Event x) t = record { cpu = λ q. absurd (omega arith); partition = λ q. absurd (omega arith); group = λ q. absurd (omega arith); default = λ q. absurd (omega arith) }
+small n (Trap x) t = record { cpu = λ q. absurd (omega arith); partition = λ q. absurd (omega arith); group = λ q. absurd (omega arith); default = λ q. absurd (omega arith) }
+small n (Target x) t = record { cpu = λ q. absurd (omega arith); partition = λ q. absurd (omega arith); group = λ q. absurd (omega arith); default = λ q. absurd (omega arith) }
+small n (Route x) t = record { cpu = λ q. absurd (omega arith); partition = λ q. absurd (omega arith); group = λ q. absurd (omega arith); default = λ q. absurd (omega arith) }
+small n (End x) t = record { cpu = λ q. absurd (omega arith); partition = λ q. absurd (omega arith); group = λ q. absurd (omega arith); default = λ q. absurd (omega arith) }
 
 -- a byte of the line that a number has
-line-small : (kind k bound : ℕ) → 0 < bound → ((r : Record) → Small r → kindOf r ≡ kind → getD (bytesOf r) k 0 < bound)
+line-small : (kind k bound : ℕ) → 0 < bound → ((n : Counts) → CountsFit n → (r : Record) → Small n r → kindOf r ≡ kind → getD (bytesOf r) k 0 < bound)
     → (e : List Record) → Fair e → (n : ℕ) → getD (lineWith kind n e) k 0 < bound
 unfolding lineWith Fair
 line-small kind k bound z h [] f n = z
 line-small kind k bound z h (r ∷ e) f n =
     by-cond (λ (bytes : List ℕ). getD bytes k 0 < bound) (eqb (kindOf r) kind && eqb (getD (bytesOf r) 1 0) n) _ _
-    (λ q. h r (small (saidIn e .counts) (counts-fit e (f .0)) r (fine e r (f .1) .range)) (eqb-true (kindOf r) kind (both (eqb (kindOf r) kind) _ q .0)))
+    (λ q. h (saidIn e .counts) (counts-fit e (f .0)) r (small (saidIn e .counts) r (fine e r (f .1) .range)) (eqb-true (kindOf r) kind (both (eqb (kindOf r) kind) _ q .0)))
     (λ q. line-small kind k bound z h e (f .0) n)
 
 module _ (e : List Record) (f : Fair e) (n : ℕ) where
   cpu-small : getD (lineWith 2 n e) 2 0 < 8
-  cpu-small = line-small 2 2 8 (omega arith) (λ r s q. s .cpu q) e f n
+  cpu-small = line-small 2 2 8 (omega arith) (λ m c r s q. omega (arith, s .cpu q)) e f n
 
   pub partition-small : getD (lineWith 3 n e) 2 0 < 8
-  partition-small = line-small 3 2 8 (omega arith) (λ r s q. s .partition q) e f n
+  partition-small = line-small 3 2 8 (omega arith) (λ m c r s q. omega (arith, s .partition q)) e f n
 
   pub group-small : getD (lineWith 4 n e) 2 0 < 16
-  group-small = line-small 4 2 16 (omega arith) (λ r s q. s .group q) e f n
+  group-small = line-small 4 2 16 (omega arith) (λ m c r s q. omega (arith, s .group q)) e f n
 
   default-small : getD (lineWith 4 n e) 3 0 < 16
-  default-small = line-small 4 3 16 (omega arith) (λ r s q. s .default q) e f n
+  default-small = line-small 4 3 16 (omega arith) (λ m c r s q. s .default q) e f n
 
 -- ---- the table's lookups
 

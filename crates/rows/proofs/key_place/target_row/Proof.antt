@@ -1,0 +1,30 @@
+-- `target_row` meets its contract: the row at the place, where the key is in range.
+use borrow.Author.Needs.{needs}
+use Rattle.rows.proofs.key_place.target_row.Statement.{statement}
+use Rattle.rows.proofs.key_place.target_row.Tie as tie
+use mathlib.Core.Path.{refl}
+use Rattle.rows.specs.KeyPlaces.{targetRow}
+
+mul-place : tie.Need-mul-place
+mul-place c = search needs
+
+add-place : tie.Need-add-place
+add-place c = search needs
+
+add-place-2 : tie.Need-add-place-2
+add-place-2 c = search needs
+
+row-at-requires : tie.Need-row-at-requires
+row-at-requires c κs = search needs
+
+returns : tie.Need-returns
+unfolding targetRow
+returns c = (rw (c .before .if1 .taken, c .row-at .ensures .0), refl)
+
+returns-2 : tie.Need-returns-2
+unfolding targetRow
+returns-2 c = (rw (c .if1 .left), refl)
+
+pub target-row-spec : {M : Type 1} → statement M
+target-row-spec =
+    tie.close (tie.spec mul-place add-place add-place-2 row-at-requires returns returns-2)
