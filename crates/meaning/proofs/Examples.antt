@@ -1,5 +1,6 @@
 -- Worked lookups, computed by the definitions: document 01's session policy. Each of its lines is accepted, so that the laws speak of it;
 -- what its table says of keys that are listed, of keys that are not, and of keys that no line may have.
+use Prim.Native.Nat.{ℕ}
 use mathlib.Core.Bool.{true}
 use mathlib.Core.List.{List, [], _∷_}
 use mathlib.Core.Path.{_≡_, refl}
@@ -79,3 +80,15 @@ frames : (frameCount (tableOf session) 0 1 ≡ 1)
     × ((frameAt (tableOf session) 0 1 0 ≡ record { partition = 1; length = 2 }) × (frameAt (tableOf session) 0 1 1 ≡ noFrame))
 unfolding session tableOf table rowIn nextIn placeOf framesPlace rowOf frameCount framesBelow frameAt minorRow frameFrom
 frames = (refl, (refl, refl))
+
+-- "Actions: 0 none, 1 sleep, 2 yield, 3 handover, 4 unmask IRQ, 5 reboot, 6 power off, 7 panic"
+actions : (irq subject : ℕ)
+    → (actionFrom 0 irq subject ≡ action.Nothing)
+    × ((actionFrom 1 irq subject ≡ action.Sleep)
+    × ((actionFrom 2 irq subject ≡ action.Yield)
+    × ((actionFrom 3 irq subject ≡ action.Handover subject)
+    × ((actionFrom 4 irq subject ≡ action.Unmask (record { 0 = irq }))
+    × ((actionFrom 5 irq subject ≡ action.Reboot)
+    × ((actionFrom 6 irq subject ≡ action.PowerOff) × (actionFrom 7 irq subject ≡ action.Panic)))))))
+unfolding actionFrom
+actions irq subject = (refl, (refl, (refl, (refl, (refl, (refl, (refl, refl)))))))
