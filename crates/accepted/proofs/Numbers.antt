@@ -17,7 +17,7 @@ use Rattle.records.specs.Kinds.{kindOf, bytesOf, headerIn}
 use Rattle.rules.specs.declared.refusal.Verdict.the-variants.{Accepted}
 use Rattle.rules.specs.Said.{Said, saidIn, lastKind, lineWith, headerLine, some}
 use Rattle.rules.specs.Rules.{countsInRange, inRange, allBelow, anyBelow, allGiven, hasGroup, hasSubject, allUsed, allFramed, complete, incomplete, even, uneven, verdict, wrongKind}
-use Rattle.rules.proofs.Fine.{Fair, fine}
+use Rattle.rules.proofs.Fine.{Fair, fine, in-header}
 use Rattle.rules.proofs.Order.{kind-some}
 use Rattle.rules.proofs.Same.{Small, small}
 use Rattle.meaning.specs.Means.{Has}
@@ -74,14 +74,10 @@ unfolding lastKind wrongKind
 behind-one [] r v k q = k (eqb-true (kindOf r) 1 (not-false (eqb (kindOf r) 1) (fine [] r v .kind)))
 behind-one (last ∷ e) r v k q = kind-some last q
 
-in-header : (n h : Counts) → inRange n (Header h) ≡ true → countsInRange h ≡ true
-unfolding inRange
-in-header n h t = t
-
 pub counts-range : (e : List Record) → Fair e → (lastKind e ≡ 0 → ⊥) → CountsRange (saidIn e .counts)
 unfolding Fair saidIn headerLine headerIn kindOf bytesOf lastKind
 counts-range [] f k = absurd (k refl)
-counts-range (Header h ∷ e) f k = header-range h (in-header (saidIn e .counts) h (fine e (Header h) (f .1) .range))
+counts-range (Header h ∷ e) f k = header-range h (in-header e h (fine e (Header h) (f .1) .range))
 counts-range (Partition x ∷ e) f k = counts-range e (f .0) (behind-one e (Partition x) (f .1) (λ q. omega arith))
 counts-range (Group x ∷ e) f k = counts-range e (f .0) (behind-one e (Group x) (f .1) (λ q. omega arith))
 counts-range (Subject x ∷ e) f k = counts-range e (f .0) (behind-one e (Subject x) (f .1) (λ q. omega arith))

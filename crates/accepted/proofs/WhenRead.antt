@@ -16,6 +16,7 @@ use Rattle.rules.specs.Said.{lastKind, lineWith, headerLine}
 use Rattle.rules.specs.Rules.{verdict}
 use Rattle.rules.proofs.Fine.{Fair, fine}
 use Rattle.rules.proofs.Order.{kind-may, kind-some}
+use Rattle.rules.proofs.Same.{header-skip}
 use Rattle.meaning.specs.Means.{Has}
 
 pub record WhenRead (r : Record) (e : List Record) : Type 0 where
@@ -28,10 +29,6 @@ pub record WhenRead (r : Record) (e : List Record) : Type 0 where
 line-skip : (kind n : ℕ) (x : Record) (e : List Record) → (kindOf x ≡ kind → ⊥) → lineWith kind n (x ∷ e) ≡ lineWith kind n e
 unfolding lineWith
 line-skip kind n x e d = rw (ne-eqb (kindOf x) kind d)
-
-header-skip : (x : Record) (e : List Record) → (kindOf x ≡ 1 → ⊥) → headerLine (x ∷ e) ≡ headerLine e
-unfolding headerLine
-header-skip x e d = rw (ne-eqb (kindOf x) 1 d)
 
 -- kinds never go down
 kind-above : (e : List Record) (x : Record) → verdict e x ≡ Accepted → lastKind e ≤ kindOf x

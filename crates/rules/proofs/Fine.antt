@@ -73,7 +73,7 @@ header-fit h t =
       majors = leb-true _ _ (both (leb 1 (h .majors)) _ (d .1) .1);
     }
 
-in-header : (e : List Record) (h : Counts) → inRange (saidIn e .counts) (Header h) ≡ true → countsInRange h ≡ true
+pub in-header : (e : List Record) (h : Counts) → inRange (saidIn e .counts) (Header h) ≡ true → countsInRange h ≡ true
 unfolding inRange
 in-header e h t = t
 

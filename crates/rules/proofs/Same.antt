@@ -69,7 +69,7 @@ no-header : countsIn (rowIn [] 0) ≡ headerIn (headerLine [])
 unfolding rowIn headerIn headerLine
 no-header = refl
 
-header-skip : (r : Record) (e : List Record) → (kindOf r ≡ 1 → ⊥) → headerLine (r ∷ e) ≡ headerLine e
+pub header-skip : (r : Record) (e : List Record) → (kindOf r ≡ 1 → ⊥) → headerLine (r ∷ e) ≡ headerLine e
 unfolding headerLine
 header-skip r e k = rw (ne-eqb (kindOf r) 1 k)
 
