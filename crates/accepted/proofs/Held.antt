@@ -16,8 +16,8 @@ use Rattle.records.specs.declared.kind.Record.{Record}
 use Rattle.records.specs.declared.kind.Record.the-variants.{Frame, Event}
 use Rattle.records.specs.Kinds.{kindOf, headerIn}
 use Rattle.rules.specs.Said.{Said, saidIn, lineWith, headerLine, some}
-use Rattle.rules.specs.Rules.{none, inRange, frameInRange, eventInRange, misplaced, frameMisplaced, hasTarget, unknownSubject, wrongIrqLine, wrongHandover, halfTarget, wrongTarget, cpuOfSubject, wrongKick, eventMisplaced}
-use Rattle.rules.proofs.Fine.{Fair, fine}
+use Rattle.rules.specs.Rules.{none, inRange, frameInRange, eventInRange, misplaced, frameMisplaced, hasTarget, unknownSubject, wrongIrqLine, wrongHandover, halfTarget, wrongTarget, cpuOfSubject, wrongKick, eventMisplaced, Fair}
+use Rattle.rules.proofs.Fine.{fine}
 use Rattle.meaning.specs.Means.{Has}
 use Rattle.meaning.proofs.Spoken.{neither-of}
 use Rattle.accepted.proofs.WhenRead.{when-read}

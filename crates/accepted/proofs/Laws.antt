@@ -17,8 +17,8 @@ use Rattle.rules.specs.declared.refusal.Verdict.the-variants.{Accepted}
 use Rattle.rules.specs.Plan.{periodBy}
 use Rattle.rules.specs.Said.{saidIn, lineWith, lastKind}
 use Rattle.rules.specs.Tables.{saidBy}
-use Rattle.rules.specs.Rules.{verdict, cpuOfSubject}
-use Rattle.rules.proofs.Fine.{Fair, fine}
+use Rattle.rules.specs.Rules.{verdict, cpuOfSubject, Fair}
+use Rattle.rules.proofs.Fine.{fine}
 use Rattle.rules.proofs.Steady.{unended, steady}
 use Rattle.rules.proofs.Same.{Same, same, partition-small, group-small}
 use Rattle.policy.specs.declared.value.Policy.{Policy}

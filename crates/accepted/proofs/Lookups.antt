@@ -15,8 +15,7 @@ use Rattle.records.specs.declared.kind.Record.the-variants.{Event, Trap, Target
 use Rattle.records.specs.Kinds.{kindOf}
 use Rattle.rows.specs.Lines.{tableOf}
 use Rattle.rules.specs.Said.{saidIn}
-use Rattle.rules.specs.Rules.{none, inRange, trapInRange, targetInRange, routable, routeInRange, cpuOfSubject}
-use Rattle.rules.proofs.Fine.{Fair}
+use Rattle.rules.specs.Rules.{none, inRange, trapInRange, targetInRange, routable, routeInRange, cpuOfSubject, Fair}
 use Rattle.meaning.specs.declared.answer.HostVector.{HostVector}
 use Rattle.meaning.specs.declared.answer.SubjectVector.{SubjectVector}
 use Rattle.meaning.specs.declared.answer.IrqLine.{IrqLine}

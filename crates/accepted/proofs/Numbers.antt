@@ -16,8 +16,8 @@ use Rattle.records.specs.declared.kind.Record.the-variants.{Header, Partition, 
 use Rattle.records.specs.Kinds.{kindOf, bytesOf, headerIn}
 use Rattle.rules.specs.declared.refusal.Verdict.the-variants.{Accepted}
 use Rattle.rules.specs.Said.{Said, saidIn, lastKind, lineWith, headerLine, some}
-use Rattle.rules.specs.Rules.{countsInRange, inRange, allBelow, anyBelow, allGiven, hasGroup, hasSubject, allUsed, allFramed, complete, incomplete, even, uneven, verdict, wrongKind}
-use Rattle.rules.proofs.Fine.{Fair, fine, in-header}
+use Rattle.rules.specs.Rules.{countsInRange, inRange, allBelow, anyBelow, allGiven, hasGroup, hasSubject, allUsed, allFramed, complete, incomplete, even, uneven, verdict, wrongKind, Fair}
+use Rattle.rules.proofs.Fine.{fine, in-header}
 use Rattle.rules.proofs.Order.{kind-some}
 use Rattle.rules.proofs.Same.{Small, small}
 use Rattle.meaning.specs.Means.{Has}

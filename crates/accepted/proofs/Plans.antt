@@ -15,8 +15,7 @@ use Rattle.records.specs.declared.kind.Record.the-variants.{Header, Partition, 
 use Rattle.records.specs.Kinds.{kindOf}
 use Rattle.rows.specs.KeyPlaces.{minorRow}
 use Rattle.rules.specs.Said.{saidIn, framesOf}
-use Rattle.rules.specs.Rules.{allBelow, allFramed, even}
-use Rattle.rules.proofs.Fine.{Fair}
+use Rattle.rules.specs.Rules.{allBelow, allFramed, even, Fair}
 use Rattle.meaning.specs.declared.answer.Frame as minor
 use Rattle.meaning.specs.Answers.{frameFrom, noFrame}
 use Rattle.meaning.specs.Lookups.{framesBelow, frameCount}

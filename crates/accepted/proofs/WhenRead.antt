@@ -13,8 +13,8 @@ use Rattle.records.specs.declared.kind.Record.{Record}
 use Rattle.records.specs.Kinds.{kindOf, bytesOf}
 use Rattle.rules.specs.declared.refusal.Verdict.the-variants.{Accepted}
 use Rattle.rules.specs.Said.{lastKind, lineWith, headerLine}
-use Rattle.rules.specs.Rules.{verdict}
-use Rattle.rules.proofs.Fine.{Fair, fine}
+use Rattle.rules.specs.Rules.{verdict, Fair}
+use Rattle.rules.proofs.Fine.{fine}
 use Rattle.rules.proofs.Order.{kind-may, kind-some}
 use Rattle.rules.proofs.Same.{header-skip}
 use Rattle.meaning.specs.Means.{Has}

@@ -14,8 +14,7 @@ use Rattle.rows.specs.Lines.{nextIn, rowIn, tableOf}
 use Rattle.rows.specs.Lookups.{defaultOf}
 use Rattle.rows.specs.KeyPlaces.{minorRow, eventRow, trapRow, targetRow, routeRow}
 use Rattle.rules.specs.Said.{saidIn, lastKind, lineWith, headerLine, framesOf, sumOf}
-use Rattle.rules.specs.Rules.{wrongKind, countsInRange, partitionInRange, groupInRange, subjectInRange, frameInRange, eventInRange, trapInRange, targetInRange, routable, routeInRange, inRange, keyOf, before, follows, ninth, outOfOrder, allBelow, anyBelow, allGiven, hasGroup, hasSubject, allUsed, allFramed, complete, incomplete, frameMisplaced, trapMisplaced, hasTarget, unknownSubject, wrongIrqLine, wrongHandover, halfTarget, wrongTarget, cpuOfSubject, wrongKick, eventMisplaced, misplaced, even, uneven, judged, verdict}
-use Rattle.rules.proofs.Fine.{Fair}
+use Rattle.rules.specs.Rules.{wrongKind, countsInRange, partitionInRange, groupInRange, subjectInRange, frameInRange, eventInRange, trapInRange, targetInRange, routable, routeInRange, inRange, keyOf, before, follows, ninth, outOfOrder, allBelow, anyBelow, allGiven, hasGroup, hasSubject, allUsed, allFramed, complete, incomplete, frameMisplaced, trapMisplaced, hasTarget, unknownSubject, wrongIrqLine, wrongHandover, halfTarget, wrongTarget, cpuOfSubject, wrongKick, eventMisplaced, misplaced, even, uneven, judged, verdict, Fair}
 use Rattle.meaning.specs.declared.answer.Masking.the-variants.{Line}
 use Rattle.meaning.specs.declared.answer.Route.the-variants as route
 use Rattle.meaning.specs.declared.answer.Action.the-variants as action

@@ -17,7 +17,7 @@ use Rattle.rows.specs.Rows.{rowOf, recordAt}
 use Rattle.rows.specs.Lawful.{Fits, Room}
 use Rattle.rows.specs.Lines.{tableOf}
 use Rattle.rows.proofs.RowLaws.{back, some}
-use Rattle.rules.proofs.Fine.{Fair}
+use Rattle.rules.specs.Rules.{Fair}
 use Rattle.meaning.specs.Means.{Has, Listed, Unlisted, Tells}
 use Rattle.meaning.proofs.Laid.{Keyed, Stands, Laid}
 

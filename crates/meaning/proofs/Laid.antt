@@ -20,10 +20,11 @@ use Rattle.rows.proofs.PlaceLaws.{place-next}
 use Rattle.rows.proofs.RowLaws.{back}
 use Rattle.rows.proofs.LineTableLaws.{row-here, row-other, get-row, within}
 use Rattle.rules.specs.Said.{lastKind, framesOf}
-use Rattle.rules.proofs.Fine.{Fair, fine}
+use Rattle.rules.proofs.Fine.{fine}
 use Rattle.rules.proofs.Frames.{Steady, placed-of, counted-of, frames-skip}
 use Rattle.rules.proofs.FrameRows.{rowBehind, frame-rows}
 use Rattle.rules.proofs.Steady.{unended, steady}
+use Rattle.rules.specs.Rules.{Fair}
 use Rattle.meaning.specs.Means.{Has}
 
 -- a line that stands at the place of its key

@@ -18,7 +18,7 @@ use Rattle.rows.specs.Lines.{tableOf}
 use Rattle.rows.specs.Lookups.{countsOf, given, partitionGiven, cpuOf, groupGiven, partitionOf, subjectGiven, groupOf, defaultOf}
 use Rattle.rows.specs.KeyPlaces.{eventRow, trapRow, targetRow, routeRow}
 use Rattle.rules.specs.Said.{saidIn}
-use Rattle.rules.proofs.Fine.{Fair}
+use Rattle.rules.specs.Rules.{Fair}
 use Rattle.meaning.specs.declared.answer.Route.the-variants.{Nowhere}
 use Rattle.meaning.specs.declared.answer.TargetAction.the-variants.{Nothing}
 use Rattle.meaning.specs.Answers.{routeFrom, sourceFrom, targetFrom, noEvent}

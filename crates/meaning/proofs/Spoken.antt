@@ -21,8 +21,8 @@ use Rattle.records.specs.declared.kind.Record.the-variants.{Header, Partition, 
 use Rattle.records.specs.Kinds.{kindOf, bytesOf}
 use Rattle.rows.specs.Lawful.{Fits}
 use Rattle.rules.specs.Said.{Said, saidIn, lineWith, some}
-use Rattle.rules.specs.Rules.{none, inRange, eventInRange, targetInRange, misplaced, hasTarget, unknownSubject, wrongIrqLine, wrongHandover, halfTarget, wrongTarget, eventMisplaced, trapMisplaced}
-use Rattle.rules.proofs.Fine.{Fine, fine, Fair, counts-fit, fits-of}
+use Rattle.rules.specs.Rules.{none, inRange, eventInRange, targetInRange, misplaced, hasTarget, unknownSubject, wrongIrqLine, wrongHandover, halfTarget, wrongTarget, eventMisplaced, trapMisplaced, Fair}
+use Rattle.rules.proofs.Fine.{Fine, fine, counts-fit, fits-of}
 use Rattle.meaning.specs.declared.answer.SubjectVector.{SubjectVector}
 use Rattle.meaning.specs.declared.answer.Route.the-variants.{Nowhere}
 use Rattle.meaning.specs.declared.answer.Action.{Action}

@@ -20,7 +20,7 @@ use Rattle.records.specs.declared.kind.Record.{Record}
 use Rattle.records.specs.declared.kind.Record.the-variants.{Header, Partition, Group, Subject, Frame, Event, Trap, Target, Route, End}
 use Rattle.rows.specs.Lines.{tableOf}
 use Rattle.rows.specs.Lookups.{countsOf, partitionGiven, cpuOf, groupGiven, partitionOf, subjectGiven, groupOf, defaultOf}
-use Rattle.rules.proofs.Fine.{Fair}
+use Rattle.rules.specs.Rules.{Fair}
 use Rattle.meaning.specs.declared.answer.HostVector.{HostVector}
 use Rattle.meaning.specs.declared.answer.Route.the-variants.{Nowhere}
 use Rattle.meaning.specs.declared.answer.TargetAction.the-variants.{Nothing}

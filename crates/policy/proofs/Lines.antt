@@ -22,8 +22,7 @@ use Rattle.rules.specs.declared.refusal.Refusal.{Refusal}
 use Rattle.rules.specs.declared.refusal.Verdict.{Verdict}
 use Rattle.rules.specs.declared.refusal.Verdict.the-variants.{Accepted, Refused}
 use Rattle.rules.specs.Said.{lastKind}
-use Rattle.rules.specs.Rules.{verdict}
-use Rattle.rules.proofs.Fine.{Fair}
+use Rattle.rules.specs.Rules.{verdict, Fair}
 use Rattle.policy.specs.declared.value.Policy.{Policy}
 use Rattle.policy.specs.declared.reader.Reading.{Reading}
 use Rattle.policy.specs.Reads.{longestText, linesOf, refusal, acceptance, policyOf, atEnd, onward, noRecord, judge, readOf, recordsIn, recordsOf}

@@ -19,8 +19,8 @@ use Rattle.rows.proofs.LineTableLaws.{get-row, is-table, row-other, lines-back,
 use Rattle.rules.specs.declared.refusal.Verdict.{Verdict}
 use Rattle.rules.specs.declared.refusal.Verdict.the-variants.{Accepted, Refused}
 use Rattle.rules.specs.Said.{lastKind}
-use Rattle.rules.specs.Rules.{complete, incomplete, verdict}
-use Rattle.rules.proofs.Fine.{fine, Fair}
+use Rattle.rules.specs.Rules.{complete, incomplete, verdict, Fair}
+use Rattle.rules.proofs.Fine.{fine}
 use Rattle.rules.proofs.Frames.{placed-of}
 use Rattle.rules.proofs.Steady.{unended, steady}
 use Rattle.policy.specs.declared.value.Policy.{Policy}

@@ -17,7 +17,7 @@ use Rattle.rows.specs.Lawful.{Fits}
 use Rattle.rules.specs.declared.refusal.Verdict.the-variants.{Accepted}
 use Rattle.rules.specs.Said.{saidIn, lastKind, headerLine}
 use Rattle.rules.specs.Lawful.{Smallest}
-use Rattle.rules.specs.Rules.{wrongKind, countsInRange, partitionInRange, groupInRange, subjectInRange, longestFrame, frameInRange, eventInRange, trapInRange, targetInRange, routable, routeInRange, inRange, outOfOrder, incomplete, misplaced, uneven, judged, verdict}
+use Rattle.rules.specs.Rules.{wrongKind, countsInRange, partitionInRange, groupInRange, subjectInRange, longestFrame, frameInRange, eventInRange, trapInRange, targetInRange, routable, routeInRange, inRange, outOfOrder, incomplete, misplaced, uneven, judged, verdict, Fair}
 
 -- ---- the table, from its first rule to its last
 
@@ -43,11 +43,6 @@ pub fine : (e : List Record) (r : Record) → verdict e r ≡ Accepted → Fine 
 fine e r v =
     let t = rw v at (smallest e r) in
     record { kind = t .0; range = t .1 .0; order = t .1 .1 .0; full = t .1 .1 .1 .0; placed = t .1 .1 .1 .1 .0; even = t .1 .1 .1 .1 .1 }
-
--- each line was accepted when it was read
-unfoldable pub Fair : List Record → Type 0
-Fair [] = Unit
-Fair (r ∷ e) = Fair e × (verdict e r ≡ Accepted)
 
 -- ---- ranges
 

@@ -25,8 +25,8 @@ use Rattle.rows.proofs.LineTableLaws.{row-other}
 use Rattle.rules.specs.Said.{Said, saidIn, lineWith, headerLine, framesOf, sumOf}
 use Rattle.rules.specs.Plan.{total, planLength, lengthsAt, periodBy}
 use Rattle.rules.specs.Tables.{saidBy}
-use Rattle.rules.specs.Rules.{inRange, partitionInRange, groupInRange, subjectInRange}
-use Rattle.rules.proofs.Fine.{fine, Fair, CountsFit, counts-fit}
+use Rattle.rules.specs.Rules.{inRange, partitionInRange, groupInRange, subjectInRange, Fair}
+use Rattle.rules.proofs.Fine.{fine, CountsFit, counts-fit}
 use Rattle.rules.proofs.Frames.{Steady, placed-of, counted-of}
 use Rattle.rules.proofs.FrameRows.{rowBehind, frame-rows, first-row, sumTo, sum-same, rows-sum, short-of}
 use Rattle.rules.proofs.Lookup.{byteRow, subjectRow, partition-looked, group-looked, subject-looked, byte-given, byte-last, subject-given, subject-group, subject-default}

@@ -15,9 +15,9 @@ use Rattle.rows.specs.Places.{framesPlace, placeOf}
 use Rattle.rows.specs.Lawful.{Fits, Room}
 use Rattle.rows.specs.Lines.{nextIn}
 use Rattle.rules.specs.Said.{saidIn, lastKind}
-use Rattle.rules.specs.Rules.{wrongKind, outOfOrder, ninth}
+use Rattle.rules.specs.Rules.{wrongKind, outOfOrder, ninth, Fair}
 use Rattle.rules.specs.Tables.{behind}
-use Rattle.rules.proofs.Fine.{fine, Fair, counts-fit, fits-of}
+use Rattle.rules.proofs.Fine.{fine, counts-fit, fits-of}
 use Rattle.rules.proofs.Order.{Rises, KindMay, kind-may, kind-some, rises-in-order}
 use Rattle.rules.proofs.Frames.{Steady, counted-of, frame-in-order}
 

@@ -24,9 +24,9 @@ use Rattle.rules.specs.declared.refusal.Refusal.{Refusal}
 use Rattle.rules.specs.declared.refusal.Verdict.{Verdict}
 use Rattle.rules.specs.declared.refusal.Verdict.the-variants.{Accepted, Refused}
 use Rattle.rules.specs.Said.{saidIn, lastKind}
-use Rattle.rules.specs.Rules.{wrongKind, inRange, outOfOrder, incomplete, misplaced, uneven, judged, verdict}
+use Rattle.rules.specs.Rules.{wrongKind, inRange, outOfOrder, incomplete, misplaced, uneven, judged, verdict, Fair}
 use Rattle.rules.specs.Tables.{saidBy, behind}
-use Rattle.rules.proofs.Fine.{Fair, counts-fit, fits-of}
+use Rattle.rules.proofs.Fine.{counts-fit, fits-of}
 use Rattle.rules.proofs.Frames.{placed-of}
 use Rattle.rules.proofs.Steady.{in-order, unended, steady}
 use Rattle.rules.proofs.Same.{Rowed, same, group-small, partition-small}

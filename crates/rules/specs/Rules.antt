@@ -4,6 +4,7 @@
 use Prim.Native.Nat.{ℕ, zero, suc, _+_}
 use mathlib.Core.Bool.{Bool, true, false, cond, not, _&&_, _||_}
 use mathlib.Core.List.{List, [], _∷_}
+use mathlib.Core.Path.{_≡_}
 use lib.ListN.{length}
 use lib.Dec.{ltb, leb, eqb}
 use Rattle.records.specs.declared.kind.Counts.{Counts}
@@ -294,3 +295,8 @@ judged said last lines line unordered r =
 -- what a line gets after the earlier ones
 unfoldable pub verdict : List Record → Record → Verdict
 verdict earlier r = judged (saidIn earlier) (lastKind earlier) (length earlier) (length earlier + 1) (outOfOrder earlier r) r
+
+-- each line was accepted when it was read
+unfoldable pub Fair : List Record → Type 0
+Fair [] = Unit
+Fair (r ∷ earlier) = Fair earlier × (verdict earlier r ≡ Accepted)
