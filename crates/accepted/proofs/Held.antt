@@ -1,8 +1,8 @@
 -- A line of kinds 05 to 09 among accepted lines: it is in the header's range, and it is in place by what all lines say of partitions, groups
 -- and subjects.
 use Prim.Native.Nat.{ℕ, _≤_, _<_}
-use mathlib.Core.Bool.{Bool, true, false, cond, not, _&&_, _||_, true≢false}
-use mathlib.Core.List.{List, [], _∷_}
+use mathlib.Core.Bool.{Bool, true, false, not, _&&_, _||_, true≢false}
+use mathlib.Core.List.{List}
 use mathlib.Core.Path.{_≡_, refl, ap, sym, subst, _∙_}
 use native.Mathlib.Omega.{arith}
 use lib.Dec.{ltb, leb, eqb}
@@ -15,7 +15,7 @@ use Rattle.records.specs.declared.kind.EventLine.{EventLine}
 use Rattle.records.specs.declared.kind.Record.{Record}
 use Rattle.records.specs.declared.kind.Record.the-variants.{Frame, Event}
 use Rattle.records.specs.Kinds.{kindOf, headerIn}
-use Rattle.rules.specs.Said.{Said, saidIn, lineWith, headerLine, some}
+use Rattle.rules.specs.Said.{saidIn, lineWith, some}
 use Rattle.rules.specs.Rules.{none, inRange, frameInRange, eventInRange, misplaced, frameMisplaced, hasTarget, unknownSubject, wrongIrqLine, wrongHandover, halfTarget, wrongTarget, cpuOfSubject, wrongKick, eventMisplaced, Fair}
 use Rattle.rules.proofs.Fine.{fine}
 use Rattle.meaning.specs.Means.{Has}

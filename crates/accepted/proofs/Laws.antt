@@ -1,11 +1,11 @@
 -- The laws of this crate, together: what `lawful` promises. An accepted text's records, latest first, are lines each accepted when it was
 -- read, and the policy's table is theirs; so what the rules ask of lines holds of the table.
 use Prim.Native.Nat.{ℕ, _≤_, _<_}
-use mathlib.Core.Bool.{Bool, true, false}
-use mathlib.Core.List.{List, [], _∷_, _++_}
+use mathlib.Core.Bool.{true}
+use mathlib.Core.List.{List, [], _∷_}
 use mathlib.Core.Path.{_≡_, refl, ap, sym, subst, _∙_}
 use native.Mathlib.Omega.{arith}
-use lib.ListN.{length, getD}
+use lib.ListN.{length}
 use borrow.Author.Tests.{lt-ltb}
 use Rattle.records.specs.declared.kind.Record.{Record}
 use Rattle.records.specs.declared.kind.Record.the-variants.{Header, Partition, Group, Subject, Frame, Event, Trap, Target, Route, End}
@@ -15,7 +15,7 @@ use Rattle.rows.specs.Lookups.{countsOf, cpuOf, partitionOf, groupOf, defaultOf
 use Rattle.rows.proofs.LineTableLaws.{get-row}
 use Rattle.rules.specs.declared.refusal.Verdict.the-variants.{Accepted}
 use Rattle.rules.specs.Plan.{periodBy}
-use Rattle.rules.specs.Said.{saidIn, lineWith, lastKind}
+use Rattle.rules.specs.Said.{saidIn, lastKind}
 use Rattle.rules.specs.Tables.{saidBy}
 use Rattle.rules.specs.Rules.{verdict, cpuOfSubject, Fair}
 use Rattle.rules.proofs.Fine.{fine}

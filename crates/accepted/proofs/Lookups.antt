@@ -1,7 +1,7 @@
 -- What the table of accepted lines says of source events, traps, target events and routes, and the rules that the line behind it has met.
 use Prim.Native.Nat.{ℕ, _≤_, _<_}
-use mathlib.Core.Bool.{Bool, true, false, cond, _&&_, _||_}
-use mathlib.Core.List.{List, [], _∷_}
+use mathlib.Core.Bool.{Bool, true, false, _&&_, _||_}
+use mathlib.Core.List.{List}
 use mathlib.Core.Path.{_≡_, refl, ap, ap₂, sym, subst, _∙_}
 use native.Mathlib.Omega.{arith}
 use lib.Dec.{ltb, leb, eqb}
@@ -9,7 +9,6 @@ use borrow.Author.Tests.{ltb-true, leb-true, eqb-true, eqb-false}
 use Rattle.hexline.proofs.Cond.{by-cond, both}
 use Rattle.records.specs.declared.kind.EventLine.{EventLine}
 use Rattle.records.specs.declared.kind.TargetLine.{TargetLine}
-use Rattle.records.specs.declared.kind.RouteLine.{RouteLine}
 use Rattle.records.specs.declared.kind.Record.{Record}
 use Rattle.records.specs.declared.kind.Record.the-variants.{Event, Trap, Target, Route}
 use Rattle.records.specs.Kinds.{kindOf}
@@ -20,7 +19,6 @@ use Rattle.meaning.specs.declared.answer.HostVector.{HostVector}
 use Rattle.meaning.specs.declared.answer.SubjectVector.{SubjectVector}
 use Rattle.meaning.specs.declared.answer.IrqLine.{IrqLine}
 use Rattle.meaning.specs.declared.answer.Masking.{Masking}
-use Rattle.meaning.specs.declared.answer.Masking.the-variants.{NoLine, Line}
 use Rattle.meaning.specs.declared.answer.Route as routing
 use Rattle.meaning.specs.declared.answer.Route.the-variants as route
 use Rattle.meaning.specs.declared.answer.Action.{Action}
@@ -28,14 +26,13 @@ use Rattle.meaning.specs.declared.answer.Action.the-variants as action
 use Rattle.meaning.specs.declared.answer.Signal.{Signal}
 use Rattle.meaning.specs.declared.answer.Signal.the-variants as signal
 use Rattle.meaning.specs.declared.answer.SourceEvent.{SourceEvent}
-use Rattle.meaning.specs.declared.answer.TargetAction.{TargetAction}
 use Rattle.meaning.specs.declared.answer.TargetAction.the-variants as target
-use Rattle.meaning.specs.Answers.{maskingFrom, signalFrom, routeFrom, sourceFrom, targetFrom, noEvent}
+use Rattle.meaning.specs.Answers.{maskingFrom, signalFrom, routeFrom, sourceFrom, noEvent}
 use Rattle.meaning.specs.Lookups.{routeOf, sourceEvent, defaultEvent, trapEvent, targetEvent}
-use Rattle.meaning.specs.Means.{Has, Means}
-use Rattle.meaning.proofs.Whole.{irqOf, routeBack, route-back, targetBack, target-back, numberOf, unmasked, targetOf, signalSubject, signalEvent, signalKick, eventBack, event-back}
+use Rattle.meaning.specs.Means.{Means}
+use Rattle.meaning.proofs.Whole.{routeBack, targetBack, target-back, numberOf, unmasked, targetOf, signalSubject, signalEvent, eventBack, event-back}
 use Rattle.accepted.specs.Facts.{MaskingFits}
-use Rattle.accepted.proofs.Held.{Held, held, or-none, EventHeld, event-held}
+use Rattle.accepted.proofs.Held.{held, or-none, EventHeld, event-held}
 
 -- ---- what is said, taken back to the line's fields
 

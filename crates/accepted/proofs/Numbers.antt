@@ -1,28 +1,28 @@
 -- Partitions, groups and subjects of an accepted policy: each is given and used, and what its line says is in range. By the rules at 0A,
 -- and by the ranges of the line when it was read.
 use Prim.Native.Nat.{ℕ, zero, suc, _≤_, _<_}
-use mathlib.Core.Bool.{Bool, true, false, cond, not, _&&_, _||_, true≢false}
+use mathlib.Core.Bool.{Bool, true, false, cond, _&&_, _||_, true≢false}
 use mathlib.Core.List.{List, [], _∷_}
-use mathlib.Core.Logic.{_⊎_, inl, inr}
+use mathlib.Core.Logic.{inl, inr}
 use mathlib.Core.Path.{_≡_, refl, ap, sym, subst, _∙_}
 use native.Mathlib.Omega.{arith}
-use lib.Dec.{ltb, leb, eqb}
+use lib.Dec.{leb, eqb}
 use lib.ListN.{length, getD}
 use borrow.Author.Tests.{eqb-true, eqb-false, leb-true, not-false}
-use Rattle.hexline.proofs.Cond.{by-cond, both}
+use Rattle.hexline.proofs.Cond.{both}
 use Rattle.records.specs.declared.kind.Counts.{Counts}
 use Rattle.records.specs.declared.kind.Record.{Record}
 use Rattle.records.specs.declared.kind.Record.the-variants.{Header, Partition, Group, Subject, Frame, Event, Trap, Target, Route, End}
 use Rattle.records.specs.Kinds.{kindOf, bytesOf, headerIn}
 use Rattle.rules.specs.declared.refusal.Verdict.the-variants.{Accepted}
-use Rattle.rules.specs.Said.{Said, saidIn, lastKind, lineWith, headerLine, some}
-use Rattle.rules.specs.Rules.{countsInRange, inRange, allBelow, anyBelow, allGiven, hasGroup, hasSubject, allUsed, allFramed, complete, incomplete, even, uneven, verdict, wrongKind, Fair}
+use Rattle.rules.specs.Said.{saidIn, lastKind, lineWith, headerLine, some}
+use Rattle.rules.specs.Rules.{countsInRange, allBelow, anyBelow, allGiven, hasGroup, hasSubject, allUsed, allFramed, complete, incomplete, even, uneven, verdict, wrongKind, Fair}
 use Rattle.rules.proofs.Fine.{fine, in-header}
 use Rattle.rules.proofs.Order.{kind-some}
 use Rattle.rules.proofs.Same.{Small, small}
 use Rattle.meaning.specs.Means.{Has}
 use Rattle.accepted.specs.Facts.{CountsRange}
-use Rattle.accepted.proofs.WhenRead.{WhenRead, when-read}
+use Rattle.accepted.proofs.WhenRead.{when-read}
 
 -- ---- every and some number below a bound
 

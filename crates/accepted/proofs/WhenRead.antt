@@ -1,16 +1,13 @@
 -- A line among accepted lines was accepted after the lines before it, and what these said of partitions, groups and subjects is what all
 -- lines say: kinds never go down, so no later line is of a lower kind.
 use Prim.Native.Nat.{ℕ, _≤_, _<_}
-use mathlib.Core.Bool.{Bool, true, false}
 use mathlib.Core.List.{List, [], _∷_}
 use mathlib.Core.Logic.{_⊎_, inl, inr}
-use mathlib.Core.Path.{_≡_, refl, ap, sym, _∙_}
+use mathlib.Core.Path.{_≡_, ap, sym, _∙_}
 use native.Mathlib.Omega.{arith}
-use lib.Dec.{eqb}
-use lib.ListN.{length, getD}
 use borrow.Author.Tests.{ne-eqb}
 use Rattle.records.specs.declared.kind.Record.{Record}
-use Rattle.records.specs.Kinds.{kindOf, bytesOf}
+use Rattle.records.specs.Kinds.{kindOf}
 use Rattle.rules.specs.declared.refusal.Verdict.the-variants.{Accepted}
 use Rattle.rules.specs.Said.{lastKind, lineWith, headerLine}
 use Rattle.rules.specs.Rules.{verdict, Fair}

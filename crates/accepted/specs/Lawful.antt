@@ -2,7 +2,7 @@
 -- exactly where no line says it. And it has what the scheduler needs.
 use Prim.Native.Nat.{ℕ}
 use mathlib.Core.Bool.{true}
-use mathlib.Core.List.{List, [], _∷_}
+use mathlib.Core.List.{List}
 use mathlib.Core.Path.{_≡_}
 use Rattle.records.specs.declared.kind.Record.{Record}
 use Rattle.rows.specs.Lines.{tableOf, inOrder}

@@ -194,15 +194,6 @@ module _ (f g : FrameLine) (e : List Record) (a : Fits (Frame f)) (b : Fits (Fra
       same-test _ _ (λ x. right (leb-true _ _ x) l u (decLt (f .major * 4 + f .cpu) (g .major * 4 + g .cpu)))
       (λ x. left l u (or-cases (before (keyOf (Frame f)) (keyOf (Frame g))) _ x))
     where
-      at : ℕ
-      at = placeOf (nextIn e) (Frame g)
-
-      mine : ℕ
-      mine = f .major * 4 + f .cpu
-
-      other : ℕ
-      other = g .major * 4 + g .cpu
-
       right : framesStart + (f .major * 4 + f .cpu) * 8 + 8 ≤ suc (placeOf (nextIn e) (Frame g))
           → framesStart + (g .major * 4 + g .cpu) * 8 ≤ placeOf (nextIn e) (Frame g)
           → placeOf (nextIn e) (Frame g) < framesStart + (g .major * 4 + g .cpu) * 8 + 8

@@ -1,8 +1,7 @@
 -- `shift` is safe and ends: what is left lies within the buffer, whose length stays.
 use borrow.Author.Needs.{needs}
-use mathlib.Core.Path.{_≡_, _∙_}
+use mathlib.Core.Path.{_≡_}
 use Prim.Native.Nat.{_≤_, _+_, _-_}
-use native.Mathlib.Omega.{arith}
 use lib.ListN.{length, length-set}
 use Rattle.policy_cases.proofs.input.shift.Statement.{statement}
 use Rattle.policy_cases.proofs.input.shift.Tie as tie
