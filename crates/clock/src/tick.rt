@@ -103,14 +103,14 @@ impl Clock {
     fn finished_below(self, count: u8) -> bool
         ensures { λ r. ⌜ r ≡ allBelow count (finished self) ⌝ }
     {
-        if count == 0 {
-            return true;
+        let mut cpu: u8 = 0;
+        while cpu < count {
+            if !self.finished(cpu) {
+                return false;
+            }
+            cpu += 1;
         }
-        let cpu = count - 1;
-        if !self.finished(cpu) {
-            return false;
-        }
-        self.finished_below(cpu)
+        true
     }
 
     // Where all wait, a major frame opens.

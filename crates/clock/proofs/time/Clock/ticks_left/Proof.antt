@@ -1,0 +1,16 @@
+-- `ticks_left` meets its contract.
+use borrow.Author.Needs.{needs}
+use Rattle.clock.proofs.time.Clock.ticks_left.Statement.{statement}
+use Rattle.clock.proofs.time.Clock.ticks_left.Tie as tie
+use Rattle.clock.specs.Time.{ticksLeft}
+use Rattle.clock.specs.Time.{ticksLeft}
+
+cpu-at-requires : tie.Need-cpu-at-requires
+cpu-at-requires c κs = search needs
+
+returns : tie.Need-returns
+unfolding ticksLeft
+returns c = cc
+
+pub ticks-left-spec : {M : Type 1} → statement M
+ticks-left-spec = tie.close (tie.spec cpu-at-requires returns)
