@@ -2,7 +2,7 @@
 ghost use mathlib.Core.Path.{_≡_};
 ghost use Prim.Native.Nat.{_≤_};
 ghost use Rattle.rules.specs.Rules.{allBelow};
-ghost use Rattle.clock.specs.Time.{mostCount, countNow, finished, withCpu, charged, oneLess, lessLeft, moved, opened, allFinished, settled, tickOf, chosen};
+ghost use Rattle.clock.specs.Time.{mostCount, countNow, finished, withCpu, charged, oneLess, lessLeft, moved, opened, settled, tickOf, chosen};
 use crate::time::CPUS;
 use crate::time::Clock;
 use crate::time::CpuClock;

@@ -1,8 +1,7 @@
--- `first` meets its contract.
+-- `first` meets its contract: the whole length of minor frame 0 is left.
 use borrow.Author.Needs.{needs}
 use Rattle.clock.proofs.time.first.Statement.{statement}
 use Rattle.clock.proofs.time.first.Tie as tie
-use Rattle.clock.specs.Time.{first}
 use Rattle.clock.specs.Time.{first}
 
 frame-at-requires : tie.Need-frame-at-requires

@@ -1,8 +1,7 @@
--- `firsts` meets its contract.
+-- `firsts` meets its contract: four times `first`.
 use borrow.Author.Needs.{needs}
 use Rattle.clock.proofs.time.firsts.Statement.{statement}
 use Rattle.clock.proofs.time.firsts.Tie as tie
-use Rattle.clock.specs.Time.{firsts}
 use Rattle.clock.specs.Time.{firsts}
 
 first-requires : tie.Need-first-requires

@@ -1,13 +1,9 @@
 -- `charged` meets its contract: a store past the last partition changes nothing.
-use borrow.Author.Needs.{needs}
+use borrow.Author.Needs.{needs, length-unmapped}
 use Rattle.clock.proofs.time.Clock.charged.Statement.{statement}
 use Rattle.clock.proofs.time.Clock.charged.Tie as tie
 use mathlib.Core.Path.{_≡_}
 use lib.ListN.{length}
-use borrow.Author.Needs.{length-unmapped}
-use Rattle.clock.proofs.Laws.{store-out}
-use Rattle.clock.specs.Time.{countNow, charged}
-use mathlib.Core.Path.{_≡_}
 use Rattle.clock.proofs.Laws.{store-out}
 use Rattle.clock.specs.Time.{countNow, charged}
 

@@ -1,9 +1,8 @@
--- `choose` meets its contract.
+-- `choose` meets its contract: one field is another.
 use Rattle.clock.proofs.time.Clock.choose.Statement.{statement}
 use Rattle.clock.proofs.time.Clock.choose.Tie as tie
 use Rattle.clock.specs.Time.{chosen}
 use borrow.Author.Needs.{needs}
-use Rattle.clock.specs.Time.{chosen}
 
 returns : tie.Need-returns
 unfolding chosen

@@ -1,8 +1,7 @@
--- `count_in_range` meets its contract.
+-- `count_in_range` meets its contract: both counts are the definition's.
 use borrow.Author.Needs.{needs}
 use Rattle.clock.proofs.time.Clock.count_in_range.Statement.{statement}
 use Rattle.clock.proofs.time.Clock.count_in_range.Tie as tie
-use Rattle.clock.specs.Time.{countInRange}
 use Rattle.clock.specs.Time.{countInRange}
 
 count-now-requires : tie.Need-count-now-requires
@@ -13,7 +12,7 @@ count-last-requires c κs = search needs
 
 returns : tie.Need-returns
 unfolding countInRange
-returns c = ?
+returns c = rw (c .before .count-now .ensures, c .count-last .ensures)
 
 pub count-in-range-spec : {M : Type 1} → statement M
 count-in-range-spec = tie.close (tie.spec count-now-requires count-last-requires returns)

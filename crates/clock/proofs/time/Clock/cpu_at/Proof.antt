@@ -6,9 +6,6 @@ use mathlib.Core.Path.{_≡_}
 use lib.ListN.{length}
 use Rattle.clock.proofs.Laws.{length-mapped, read-out}
 use Rattle.clock.specs.Time.{noCpu, cpuAt}
-use mathlib.Core.Path.{_≡_}
-use Rattle.clock.proofs.Laws.{length-mapped, read-out}
-use Rattle.clock.specs.Time.{noCpu, cpuAt}
 
 returns : tie.Need-returns
 unfolding cpuAt

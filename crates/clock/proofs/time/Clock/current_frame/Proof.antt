@@ -1,9 +1,7 @@
--- `current_frame` meets its contract.
+-- `current_frame` meets its contract: the minor frame that the CPU's clock names.
 use borrow.Author.Needs.{needs}
 use Rattle.clock.proofs.time.Clock.current_frame.Statement.{statement}
 use Rattle.clock.proofs.time.Clock.current_frame.Tie as tie
-use mathlib.Core.Path.{refl}
-use Rattle.clock.specs.Time.{currentFrame}
 use mathlib.Core.Path.{refl}
 use Rattle.clock.specs.Time.{currentFrame}
 

@@ -1,9 +1,7 @@
--- `current_partition` meets its contract.
+-- `current_partition` meets its contract: a field of the current minor frame.
 use borrow.Author.Needs.{needs}
 use Rattle.clock.proofs.time.Clock.current_partition.Statement.{statement}
 use Rattle.clock.proofs.time.Clock.current_partition.Tie as tie
-use mathlib.Core.Path.{refl, ap}
-use Rattle.clock.specs.Time.{currentPartition}
 use mathlib.Core.Path.{refl, ap}
 use Rattle.clock.specs.Time.{currentPartition}
 

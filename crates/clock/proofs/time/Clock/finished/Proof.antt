@@ -1,8 +1,7 @@
--- `finished` meets its contract.
+-- `finished` meets its contract: the CPU waits.
 use borrow.Author.Needs.{needs}
 use Rattle.clock.proofs.time.Clock.finished.Statement.{statement}
 use Rattle.clock.proofs.time.Clock.finished.Tie as tie
-use Rattle.clock.specs.Time.{finished}
 use Rattle.clock.specs.Time.{finished}
 
 waiting-requires : tie.Need-waiting-requires

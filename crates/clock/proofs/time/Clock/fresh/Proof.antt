@@ -1,10 +1,9 @@
--- `fresh` meets its contract.
+-- `fresh` meets its contract: every CPU at its first minor frame of major 0.
 use borrow.Author.Needs.{needs}
 use Rattle.clock.proofs.time.Clock.fresh.Statement.{statement}
 use Rattle.clock.proofs.time.Clock.fresh.Tie as tie
 use Rattle.clock.specs.Time.{freshClock}
 use mathlib.Core.Path.{refl}
-use Rattle.clock.specs.Time.{freshClock}
 
 firsts-requires : tie.Need-firsts-requires
 firsts-requires c κs = search needs

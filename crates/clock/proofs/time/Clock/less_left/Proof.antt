@@ -1,8 +1,7 @@
--- `less_left` meets its contract.
+-- `less_left` meets its contract: the CPU's clock is read, changed and stored.
 use borrow.Author.Needs.{needs}
 use Rattle.clock.proofs.time.Clock.less_left.Statement.{statement}
 use Rattle.clock.proofs.time.Clock.less_left.Tie as tie
-use Rattle.clock.specs.Time.{lessLeft}
 use Rattle.clock.specs.Time.{lessLeft}
 
 cpu-at-requires : tie.Need-cpu-at-requires

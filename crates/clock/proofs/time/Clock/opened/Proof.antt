@@ -1,8 +1,7 @@
--- `opened` meets its contract.
+-- `opened` meets its contract: every CPU at its first minor frame of the next major.
 use borrow.Author.Needs.{needs}
 use Rattle.clock.proofs.time.Clock.opened.Statement.{statement}
 use Rattle.clock.proofs.time.Clock.opened.Tie as tie
-use Rattle.clock.specs.Time.{opened}
 use Rattle.clock.specs.Time.{opened}
 
 firsts-requires : tie.Need-firsts-requires

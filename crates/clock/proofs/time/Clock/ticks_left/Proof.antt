@@ -1,8 +1,7 @@
--- `ticks_left` meets its contract.
+-- `ticks_left` meets its contract: a field of the CPU's clock.
 use borrow.Author.Needs.{needs}
 use Rattle.clock.proofs.time.Clock.ticks_left.Statement.{statement}
 use Rattle.clock.proofs.time.Clock.ticks_left.Tie as tie
-use Rattle.clock.specs.Time.{ticksLeft}
 use Rattle.clock.specs.Time.{ticksLeft}
 
 cpu-at-requires : tie.Need-cpu-at-requires

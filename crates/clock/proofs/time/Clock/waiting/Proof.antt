@@ -1,8 +1,7 @@
--- `waiting` meets its contract.
+-- `waiting` meets its contract: none is left.
 use borrow.Author.Needs.{needs}
 use Rattle.clock.proofs.time.Clock.waiting.Statement.{statement}
 use Rattle.clock.proofs.time.Clock.waiting.Tie as tie
-use Rattle.clock.specs.Time.{waiting}
 use Rattle.clock.specs.Time.{waiting}
 
 ticks-left-requires : tie.Need-ticks-left-requires

@@ -6,9 +6,6 @@ use mathlib.Core.Path.{_≡_}
 use lib.ListN.{length}
 use Rattle.clock.proofs.Laws.{length-mapped, store-out}
 use Rattle.clock.specs.Time.{withCpu}
-use mathlib.Core.Path.{_≡_}
-use Rattle.clock.proofs.Laws.{length-mapped, store-out}
-use Rattle.clock.specs.Time.{withCpu}
 
 returns : tie.Need-returns
 unfolding withCpu

@@ -1,4 +1,4 @@
--- `less` meets its contract.
+-- `less` meets its contract: one from nothing is nothing in the definition too.
 use borrow.Author.Needs.{needs}
 use Rattle.clock.proofs.time.CpuClock.less.Statement.{statement}
 use Rattle.clock.proofs.time.CpuClock.less.Tie as tie
@@ -6,7 +6,6 @@ use Rattle.clock.specs.Time.{oneLess}
 use mathlib.Core.Path.{_≡_}
 use Prim.Native.Nat.{_-_}
 use native.Mathlib.Omega.{arith}
-use Rattle.clock.specs.Time.{oneLess}
 
 sub-self : tie.Need-sub-self
 sub-self c = search needs
