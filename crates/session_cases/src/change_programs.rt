@@ -56,7 +56,8 @@ fn masks_changed(programs: Programs, change: Change) -> Programs {
 }
 
 pub(crate) fn programs_changed(programs: Programs, change: Change) -> Programs {
-    match change.field {
+    let field = change.field;
+    match field {
         ACTIVE_GROUP => programs.with_active(change.index, change.byte()),
         ACTIVE_SUBJECT | AWAKE => group_changed(programs, change),
         OPEN | EVENT | VECTOR => subject_changed(programs, change),
