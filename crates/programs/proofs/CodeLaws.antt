@@ -1,0 +1,77 @@
+-- Laws in the code's form: the search for the lowest number, the filling of an array, the search round the groups, each as a loop or a
+-- call takes it one step on.
+use mathlib.Core.Path.{_≡_, refl, sym, ap, _∙_}
+use mathlib.Core.Bool.{Bool, true, false, cond}
+use mathlib.Core.List.{List, [], _∷_, _++_, append-nil}
+use Prim.Native.Nat.{ℕ, zero, suc, _+_, _-_, _≤_, _<_}
+use native.Mathlib.Omega.{arith}
+use native.Mathlib.Numerals.{add-one, sub-one}
+use lib.ListN.{set, replicate}
+use Rattle.programs.specs.Fresh.{lowestFrom, listFrom}
+use Rattle.programs.specs.declared.round.Found.{Found}
+use Rattle.programs.specs.declared.round.Found.the-variants.{Nobody, At}
+use Rattle.programs.specs.declared.whole.Programs.{Programs}
+use Rattle.rows.specs.Lookups.{countsOf}
+use Rattle.programs.specs.Round.{after, mayRun, nextAwake}
+
+-- ---- the lowest number that passes a test: before each turn, the search from here on finds what the whole search finds
+
+pub lowest-start : (test : ℕ → Bool) (count : ℕ) → lowestFrom test 0 (count - 0) ≡ lowestFrom test 0 count
+lowest-start test count = let e : count - 0 ≡ count = omega arith in rw e
+
+pub lowest-hit : (test : ℕ → Bool) (count i : ℕ) → lowestFrom test i (count - i) ≡ lowestFrom test 0 count → i < count → test i ≡ true → i ≡ lowestFrom test 0 count
+unfolding lowestFrom
+lowest-hit test count i inv l e = sym (here test count i l e) ∙ inv
+  where
+    here : (test : ℕ → Bool) (count i : ℕ) → i < count → test i ≡ true → lowestFrom test i (count - i) ≡ i
+    here test count i l e = let s : count - i ≡ suc (count - (i + 1)) = omega arith in rw (s, e)
+
+pub lowest-pass : (test : ℕ → Bool) (count i : ℕ) → lowestFrom test i (count - i) ≡ lowestFrom test 0 count → i < count → test i ≡ false → lowestFrom test (i + 1) (count - (i + 1)) ≡ lowestFrom test 0 count
+unfolding lowestFrom
+lowest-pass test count i inv l e = sym (next test count i l e) ∙ inv
+  where
+    next : (test : ℕ → Bool) (count i : ℕ) → i < count → test i ≡ false → lowestFrom test i (count - i) ≡ lowestFrom test (i + 1) (count - (i + 1))
+    next test count i l e = let s : count - i ≡ suc (count - (i + 1)) = omega arith in rw (s, e)
+
+pub lowest-none : (test : ℕ → Bool) (count i : ℕ) → lowestFrom test i (count - i) ≡ lowestFrom test 0 count → count ≤ i → 0 ≡ lowestFrom test 0 count
+unfolding lowestFrom
+lowest-none test count i inv l = sym (past test count i l) ∙ inv
+  where
+    past : (test : ℕ → Bool) (count i : ℕ) → count ≤ i → lowestFrom test i (count - i) ≡ 0
+    past test count i l = let s : count - i ≡ 0 = omega arith in rw s
+
+-- ---- an array filled from the front: what is filled so far, then what it was made with
+
+unfoldable pub filled : {A : Type 0} → (ℕ → A) → A → ℕ → ℕ → List A
+filled item none i count = listFrom item 0 i ++ replicate (count - i) none
+
+pub filled-none : {A : Type 0} (item : ℕ → A) (none : A) (count : ℕ) → replicate count none ≡ filled item none 0 count
+unfolding filled listFrom
+filled-none item none count = let e : count - 0 ≡ count = omega arith in rw e
+
+fill-next : {A : Type 0} (item : ℕ → A) (none : A) (from i rest : ℕ) → set (listFrom item from i ++ replicate (suc rest) none) i (item (from + i)) ≡ listFrom item from (suc i) ++ replicate rest none
+unfolding listFrom
+fill-next item none from zero rest = let e : from + 0 ≡ from = omega arith in rw e
+fill-next item none from (suc i) rest = let e : from + suc i ≡ from + 1 + i = omega arith in rw e (ap (λ l. item from ∷ l) (fill-next item none (from + 1) i rest))
+
+-- one more
+pub filled-more : {A : Type 0} (item : ℕ → A) (none : A) (i count : ℕ) (l : List A) (x : A) → i < count → l ≡ filled item none i count → x ≡ item i → set l i x ≡ filled item none (i + 1) count
+unfolding filled
+filled-more item none i count l x h e f = let s : count - i ≡ suc (count - (i + 1)) = omega arith in rw (e, f, s) (rw (add-one i) at (fill-next item none 0 i (count - (i + 1))))
+
+-- all
+pub filled-all : {A : Type 0} (item : ℕ → A) (none : A) (i count : ℕ) (l : List A) → i ≡ count → l ≡ filled item none i count → l ≡ listFrom item 0 count
+unfolding filled
+filled-all item none i count l e f = let s : count - count ≡ 0 = omega arith in f ∙ rw (e, s) (append-nil _)
+
+-- ---- the next awake group: none where none is left to look at, else the next one or the search from there
+
+pub next-none : (rows : List ℕ) (s : Programs) (partition left group : ℕ) → left ≡ 0 → nextAwake rows s partition left group ≡ Nobody
+unfolding nextAwake
+next-none rows s partition zero group e = refl
+next-none rows s partition (suc left) group e = absurd (omega arith)
+
+pub next-more : (rows : List ℕ) (s : Programs) (partition left group next : ℕ) → (left ≡ 0 → ⊥) → next ≡ after (countsOf rows .groups) group → nextAwake rows s partition left group ≡ cond (mayRun rows s partition next) (At next) (nextAwake rows s partition (left - 1) next)
+unfolding nextAwake
+next-more rows s partition zero group next h e = absurd (h refl)
+next-more rows s partition (suc left) group next h e = rw (sub-one, e)
