@@ -7,6 +7,12 @@ use Prim.Native.Nat.{ℕ, zero, suc, _+_, _-_, _≤_, _<_}
 use native.Mathlib.Omega.{arith}
 use native.Mathlib.Numerals.{add-one, sub-one}
 use lib.ListN.{set, replicate}
+use Rattle.records.specs.declared.kind.Counts.{Counts}
+use Rattle.bits.specs.declared.top.Highest.{Highest}
+use Rattle.bits.specs.declared.top.Highest.the-variants as top
+use Rattle.bits.specs.Sets.{highest256}
+use Rattle.programs.specs.declared.subject.Subject.{Subject}
+use Rattle.programs.specs.Entering.{vectorTaken, vectorTakenAt}
 use Rattle.programs.specs.Fresh.{lowestFrom, listFrom}
 use Rattle.programs.specs.declared.round.Found.{Found}
 use Rattle.programs.specs.declared.round.Found.the-variants.{Nobody, At}
@@ -57,7 +63,10 @@ fill-next item none from (suc i) rest = let e : from + suc i ≡ from + 1 + i = 
 -- one more
 pub filled-more : {A : Type 0} (item : ℕ → A) (none : A) (i count : ℕ) (l : List A) (x : A) → i < count → l ≡ filled item none i count → x ≡ item i → set l i x ≡ filled item none (i + 1) count
 unfolding filled
-filled-more item none i count l x h e f = let s : count - i ≡ suc (count - (i + 1)) = omega arith in rw (e, f, s) (rw (add-one i) at (fill-next item none 0 i (count - (i + 1))))
+filled-more item none i count l x h e f =
+    let s : count - i ≡ suc (count - (i + 1)) = omega arith in
+    let z : 0 + i ≡ i = omega arith in
+    rw (e, f, s, add-one i) (rw z at (fill-next item none 0 i (count - suc i)))
 
 -- all
 pub filled-all : {A : Type 0} (item : ℕ → A) (none : A) (i count : ℕ) (l : List A) → i ≡ count → l ≡ filled item none i count → l ≡ listFrom item 0 count
@@ -71,7 +80,17 @@ unfolding nextAwake
 next-none rows s partition zero group e = refl
 next-none rows s partition (suc left) group e = absurd (omega arith)
 
-pub next-more : (rows : List ℕ) (s : Programs) (partition left group next : ℕ) → (left ≡ 0 → ⊥) → next ≡ after (countsOf rows .groups) group → nextAwake rows s partition left group ≡ cond (mayRun rows s partition next) (At next) (nextAwake rows s partition (left - 1) next)
+pub next-more : (rows : List ℕ) (s : Programs) (partition left group next : ℕ) (counts : Counts) → (left ≡ 0 → ⊥) → counts ≡ countsOf rows → next ≡ after (counts .groups) group → nextAwake rows s partition left group ≡ cond (mayRun rows s partition next) (At next) (nextAwake rows s partition (left - 1) next)
 unfolding nextAwake
-next-more rows s partition zero group next h e = absurd (h refl)
-next-more rows s partition (suc left) group next h e = rw (sub-one, e)
+next-more rows s partition zero group next counts h n e = absurd (h refl)
+next-more rows s partition (suc left) group next counts h n e = rw (sub-one, e, n)
+
+-- ---- a subject's vector is taken if it is open
+
+pub taken-closed : (x : Subject) → x .«open» ≡ false → record { subject = x; vector = top.Nothing } ≡ vectorTaken x
+unfolding vectorTaken
+taken-closed x e = sym (ap (λ (t : Bool). cond t (vectorTakenAt x (highest256 (x .vectors))) (record { subject = x; vector = top.Nothing })) e)
+
+pub taken-open : (x : Subject) (v : Highest) → x .«open» ≡ true → v ≡ highest256 (x .vectors) → vectorTakenAt x v ≡ vectorTaken x
+unfolding vectorTaken
+taken-open x v e f = ap (vectorTakenAt x) f ∙ sym (ap (λ (t : Bool). cond t (vectorTakenAt x (highest256 (x .vectors))) (record { subject = x; vector = top.Nothing })) e)

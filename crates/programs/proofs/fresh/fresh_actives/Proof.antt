@@ -6,7 +6,7 @@ use native.Mathlib.Omega.{arith}
 use borrow.Author.Needs.{needs}
 use Prim.Native.Nat.{_≤_, _-_}
 use Rattle.programs.specs.Fresh.{lowestGroup, freshActives}
-use Rattle.programs.proofs.CodeLaws.{filled-none, filled-more, filled-all}
+use Rattle.programs.proofs.CodeLaws.{filled, filled-none, filled-more, filled-all}
 
 abbrev Inv-loop : tie.InvT-loop
 Inv-loop rows actives₀ partition₀ actives partition = (partition ≤ 8) × (actives ≡ filled (lowestGroup rows) 0 partition 8)

@@ -7,7 +7,7 @@ use borrow.Author.Needs.{needs}
 use Prim.Native.Nat.{_≤_, _-_}
 use mathlib.Core.Bool.{true}
 use Rattle.programs.specs.Fresh.{freshGroup, freshGroups}
-use Rattle.programs.proofs.CodeLaws.{filled-none, filled-more, filled-all}
+use Rattle.programs.proofs.CodeLaws.{filled, filled-none, filled-more, filled-all}
 
 abbrev Inv-loop : tie.InvT-loop
 Inv-loop rows groups₀ group₀ groups group = (group ≤ 16) × (groups ≡ filled (freshGroup rows) (record { awake = true; active = 0 }) group 16)

@@ -3,11 +3,11 @@ use borrow.Author.Needs.{needs}
 use Rattle.programs.proofs.subject.Subject.vector_taken.Statement.{statement}
 use Rattle.programs.proofs.subject.Subject.vector_taken.Tie as tie
 use borrow.Author.Tests.{not-true, not-false}
-use Rattle.programs.specs.Entering.{vectorTakenAt, vectorTaken}
+use Rattle.programs.specs.Entering.{vectorTakenAt}
+use Rattle.programs.proofs.CodeLaws.{taken-closed, taken-open}
 
 returns : tie.Need-returns
-unfolding vectorTaken
-returns c = rw (not-true (c .before .before .args .self .«open») (c .if1 .taken))
+returns c = taken-closed _ (not-true _ (c .if1 .taken))
 
 highest-requires : tie.Need-highest-requires
 highest-requires c κs = search needs
@@ -22,12 +22,12 @@ clear-vector-requires : tie.Need-clear-vector-requires
 clear-vector-requires c κs = search needs
 
 returns-2 : tie.Need-returns-2
-unfolding vectorTaken vectorTakenAt
-returns-2 c = rw (not-false (c .before .before .before .before .before .args .self .«open») (c .before .before .before .if1 .left), ← c .before .before .highest .ensures, c .enum-told .given .1)
+unfolding vectorTakenAt
+returns-2 c = rw (c .enum-told .given .1) at (taken-open (c .before .before .before .before .before .args .self) _ (not-false _ (c .before .before .before .if1 .left)) (c .before .before .highest .ensures))
 
 returns-3 : tie.Need-returns-3
-unfolding vectorTaken vectorTakenAt
-returns-3 c = rw (not-false (c .before .before .before .before .before .before .before .args .self .«open») (c .before .before .before .before .before .if1 .left), ← c .before .before .before .before .highest .ensures, c .before .before .highest2 .given .1, c .clear-vector .ensures)
+unfolding vectorTakenAt
+returns-3 c = rw (c .clear-vector .ensures) (rw (c .before .before .highest2 .given .1) at (taken-open (c .before .before .before .before .before .before .before .args .self) _ (not-false _ (c .before .before .before .before .before .if1 .left)) (c .before .before .before .before .highest .ensures)))
 
 pub vector-taken-spec : {M : Type 1} → statement M
 vector-taken-spec =

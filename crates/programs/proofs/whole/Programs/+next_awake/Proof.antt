@@ -84,7 +84,7 @@ next-awake-returns-2 : (t : ℕ) → next-awake-lts.Need-returns-2 (
   next-awake-below t,
   next-awake.Post,
 ) (next-awake-at t) next-awake.Post
-next-awake-returns-2 t c = rw (next-more _ (c .before .before .before .before .before .before .args .self) _ _ _ _ (c .before .before .before .before .if1 .left) (c .before .before .after .ensures ∙ rw (c .before .before .before .counts-of .ensures .0))) (rw (sym (c .before .may-run .ensures) ∙ c .if2 .taken))
+next-awake-returns-2 t c = rw (next-more _ (c .before .before .before .before .before .before .args .self) _ _ _ _ (c .before .before .before .counts-of .result) (c .before .before .before .before .if1 .left) (c .before .before .before .counts-of .ensures .0) (c .before .before .after .ensures)) (rw (sym (c .before .may-run .ensures) ∙ c .if2 .taken))
 
 next-awake-sub-next-awake : (t : ℕ) → next-awake-lts.Need-sub-next-awake (
   counts-of-reads.Asked,
@@ -120,7 +120,7 @@ next-awake-returns-3 : (t : ℕ) → next-awake-lts.Need-returns-3 (
   next-awake-below t,
   next-awake.Post,
 ) (next-awake-at t) next-awake.Post
-next-awake-returns-3 t c = rw (next-more _ (c .before .before .before .before .before .before .before .args .self) _ _ _ _ (c .before .before .before .before .before .if1 .left) (c .before .before .before .after .ensures ∙ rw (c .before .before .before .before .counts-of .ensures .0))) (rw (sym (c .before .before .may-run .ensures) ∙ c .before .if2 .left) (c .next-awake .ensures))
+next-awake-returns-3 t c = rw (next-more _ (c .before .before .before .before .before .before .before .args .self) _ _ _ _ (c .before .before .before .before .counts-of .result) (c .before .before .before .before .before .if1 .left) (c .before .before .before .before .counts-of .ensures .0) (c .before .before .before .after .ensures)) (rw (sym (c .before .before .may-run .ensures) ∙ c .before .if2 .left) (c .next-awake .ensures))
 
 pub +next-awake-spec : {M : Type 1} → statement M
 +next-awake-spec = close μ-next-awake λ t. next-awake-lts.spec (
