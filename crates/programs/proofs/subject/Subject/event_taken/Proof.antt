@@ -3,7 +3,7 @@ use borrow.Author.Needs.{needs}
 use Rattle.programs.proofs.subject.Subject.event_taken.Statement.{statement}
 use Rattle.programs.proofs.subject.Subject.event_taken.Tie as tie
 use mathlib.Core.Path.{_∙_}
-use Rattle.programs.specs.Entering.{reacted, eventTakenAt, eventTaken}
+use Rattle.programs.specs.Entering.{eventTakenAt, eventTaken}
 
 highest-requires : tie.Need-highest-requires
 highest-requires c κs = search needs

@@ -12,7 +12,6 @@ use Rattle.programs.proofs.whole.Programs.+next_awake.{statement}
 use Rattle.programs.proofs.whole.Programs.+next_awake.Tie.{close}
 use borrow.Author.Needs.{needs}
 use mathlib.Core.Path.{sym, _∙_}
-use Rattle.programs.specs.Round.{after}
 use Rattle.programs.proofs.CodeLaws.{next-none, next-more}
 
 abbrev μ-next-awake : Measures 1 next-awake-kinds.ps ℕ

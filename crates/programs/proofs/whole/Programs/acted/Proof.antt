@@ -2,7 +2,7 @@
 use borrow.Author.Needs.{needs}
 use Rattle.programs.proofs.whole.Programs.acted.Statement.{statement}
 use Rattle.programs.proofs.whole.Programs.acted.Tie as tie
-use Rattle.programs.specs.Source.{yielded, slept, unmasked, acted}
+use Rattle.programs.specs.Source.{acted}
 
 group-of-requires : tie.Need-group-of-requires
 group-of-requires c κs = search needs

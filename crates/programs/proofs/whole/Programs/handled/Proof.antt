@@ -3,8 +3,7 @@ use borrow.Author.Needs.{needs}
 use Rattle.programs.proofs.whole.Programs.handled.Statement.{statement}
 use Rattle.programs.proofs.whole.Programs.handled.Tie as tie
 use mathlib.Core.Path.{refl}
-use Rattle.programs.specs.Signals.{signalled}
-use Rattle.programs.specs.Source.{acted, handled}
+use Rattle.programs.specs.Source.{handled}
 
 acted-requires : tie.Need-acted-requires
 acted-requires c κs = search needs

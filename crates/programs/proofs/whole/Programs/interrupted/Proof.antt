@@ -3,7 +3,7 @@ use borrow.Author.Needs.{needs}
 use Rattle.programs.proofs.whole.Programs.interrupted.Statement.{statement}
 use Rattle.programs.proofs.whole.Programs.interrupted.Tie as tie
 use mathlib.Core.Path.{refl}
-use Rattle.programs.specs.Signals.{routed, interrupted}
+use Rattle.programs.specs.Signals.{interrupted}
 
 route-of-requires : tie.Need-route-of-requires
 route-of-requires c κs = search needs

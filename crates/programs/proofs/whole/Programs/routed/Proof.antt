@@ -2,7 +2,7 @@
 use borrow.Author.Needs.{needs}
 use Rattle.programs.proofs.whole.Programs.routed.Statement.{statement}
 use Rattle.programs.proofs.whole.Programs.routed.Tie as tie
-use Rattle.programs.specs.Signals.{woke, masked, routed}
+use Rattle.programs.specs.Signals.{routed}
 
 enum-told : tie.Need-enum-told
 enum-told c = search needs

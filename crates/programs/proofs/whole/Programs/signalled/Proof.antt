@@ -3,7 +3,7 @@ use borrow.Author.Needs.{needs}
 use Rattle.programs.proofs.whole.Programs.signalled.Statement.{statement}
 use Rattle.programs.proofs.whole.Programs.signalled.Tie as tie
 use mathlib.Core.Path.{refl}
-use Rattle.programs.specs.Signals.{woke, signalled}
+use Rattle.programs.specs.Signals.{signalled}
 
 enum-told : tie.Need-enum-told
 enum-told c = search needs

@@ -3,7 +3,7 @@ use borrow.Author.Needs.{needs}
 use Rattle.programs.proofs.whole.Programs.slept.Statement.{statement}
 use Rattle.programs.proofs.whole.Programs.slept.Tie as tie
 use mathlib.Core.Path.{sym, _∙_}
-use Rattle.programs.specs.Source.{yielded, slept}
+use Rattle.programs.specs.Source.{slept}
 
 group-pending-requires : tie.Need-group-pending-requires
 group-pending-requires c κs = search needs
