@@ -51,7 +51,7 @@ fn heard_number(kind: u8, number: u8) -> Heard
     match kind {
         CHOOSE => Heard::Call(Call::Choose { major: number }),
         REPORT => Heard::Call(Call::Report { partition: number }),
-        _ => Heard::IllFormed,
+        _ => Heard::IllFormed, // a tick without its flag too
     }
 }
 
