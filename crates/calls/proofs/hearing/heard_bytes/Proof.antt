@@ -1,7 +1,7 @@
 -- `heard_bytes` meets its contract: of each count from 1 to 4 the bytes looked at are the line's; any other is of no call.
 use borrow.Author.Needs.{needs}
-use Rattle.calls.proofs.hear.heard_bytes.Statement.{statement}
-use Rattle.calls.proofs.hear.heard_bytes.Tie as tie
+use Rattle.calls.proofs.hearing.heard_bytes.Statement.{statement}
+use Rattle.calls.proofs.hearing.heard_bytes.Tie as tie
 use mathlib.Core.Path.{sym, _∙_}
 use Rattle.hexline.specs.Lines.{byteAt}
 use Rattle.calls.proofs.HearLaws.{of-one, of-two, of-three, of-four, of-other}

@@ -1,6 +1,6 @@
 -- `heard_bare` meets its contract: masks, or nothing.
-use Rattle.calls.proofs.hear.heard_bare.Statement.{statement}
-use Rattle.calls.proofs.hear.heard_bare.Tie as tie
+use Rattle.calls.proofs.hearing.heard_bare.Statement.{statement}
+use Rattle.calls.proofs.hearing.heard_bare.Tie as tie
 use borrow.Author.Tests.{eq-eqb, ne-eqb}
 use Rattle.calls.specs.Calls.{heardIn}
 

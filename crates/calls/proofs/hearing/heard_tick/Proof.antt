@@ -1,6 +1,6 @@
 -- `heard_tick` meets its contract: a tick, or nothing.
-use Rattle.calls.proofs.hear.heard_tick.Statement.{statement}
-use Rattle.calls.proofs.hear.heard_tick.Tie as tie
+use Rattle.calls.proofs.hearing.heard_tick.Statement.{statement}
+use Rattle.calls.proofs.hearing.heard_tick.Tie as tie
 use borrow.Author.Tests.{eq-eqb, ne-eqb}
 use Rattle.calls.specs.Calls.{heardIn}
 

@@ -1,7 +1,7 @@
 -- `call_line` meets its contract: each arm is one of the three ways of `CallLaws`, by the line read.
 use borrow.Author.Needs.{needs}
-use Rattle.calls.proofs.hear.call_line.Statement.{statement}
-use Rattle.calls.proofs.hear.call_line.Tie as tie
+use Rattle.calls.proofs.hearing.call_line.Statement.{statement}
+use Rattle.calls.proofs.hearing.call_line.Tie as tie
 use mathlib.Core.Path.{refl, sym, _∙_}
 use Rattle.calls.proofs.LineBytes.{whole-long}
 use Rattle.calls.proofs.CallLaws.{line-whole, line-ill-formed, line-none}

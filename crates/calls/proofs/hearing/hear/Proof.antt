@@ -1,7 +1,7 @@
 -- `hear` meets its contract: what the line is heard as; without an end it is ill formed.
 use borrow.Author.Needs.{needs}
-use Rattle.calls.proofs.hear.hear.Statement.{statement}
-use Rattle.calls.proofs.hear.hear.Tie as tie
+use Rattle.calls.proofs.hearing.hear.Statement.{statement}
+use Rattle.calls.proofs.hearing.hear.Tie as tie
 use mathlib.Core.Path.{refl, sym, _∙_}
 use Rattle.calls.proofs.CallLaws.{heard-ended, heard-unended}
 

@@ -1,6 +1,6 @@
 -- `heard_exit` meets its contract: each arm is one kind, the last none of them.
-use Rattle.calls.proofs.hear.heard_exit.Statement.{statement}
-use Rattle.calls.proofs.hear.heard_exit.Tie as tie
+use Rattle.calls.proofs.hearing.heard_exit.Statement.{statement}
+use Rattle.calls.proofs.hearing.heard_exit.Tie as tie
 use borrow.Author.Tests.{ne-eqb}
 use Rattle.calls.specs.Calls.{heardIn}
 
