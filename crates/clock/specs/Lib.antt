@@ -1,1 +1,5 @@
 pub mod Time
+pub mod Ledger
+pub mod PlanOf
+pub mod Lasting
+pub mod History
