@@ -3,3 +3,5 @@ pub mod Ledger
 pub mod PlanOf
 pub mod Lasting
 pub mod History
+pub mod Keeps
+pub mod Lawful
