@@ -21,6 +21,7 @@ use Rattle.clock.specs.Time.{charged as chargedClock, settled as settled
 use Rattle.clock.specs.Lasting.{Formed}
 use Rattle.clock.specs.History.{waits, goesOn, opens, refuses}
 use Rattle.clock.specs.Keeps.{Leaves}
+use Rattle.clock.proofs.Choices.{cond-true}
 
 -- ---- the clock of every CPU at its first minor frame
 
@@ -45,6 +46,10 @@ unfolding opened firsts
 formed-opened rows k f = record { cpus = refl; now = refl; last = f .now }
 
 -- ---- a tick
+
+pub tick-waits : (rows : List ℕ) (k : Clock) (cpu : ℕ) → waiting k cpu ≡ true → tickOf rows k cpu ≡ record { clock = k; what = Wait }
+unfolding tickOf
+tick-waits rows k cpu w = cond-true (waiting k cpu) _ _ w
 
 module _ (rows : List ℕ) (k : Clock) (cpu : ℕ) where
   -- one that changes nothing
