@@ -30,6 +30,7 @@ use Rattle.clock.proofs.Lists.{occurs-laid}
 use Rattle.clock.proofs.Minors.{aheadOf, rest-is}
 use Rattle.clock.proofs.Advance.{Ready, Advanced, Ran, part-home, ran}
 use Rattle.clock.proofs.Leaves.{leaves}
+use Rattle.clock.proofs.Carried.{carried-minor, carried-left, carried-rest, carried-last}
 use Rattle.clock.proofs.Begun.{Begun, zeros, fresh-begun, opened-begun, begun-minor, begun-left, begun-busy, begun-room}
 
 -- ---- what the test says
@@ -91,21 +92,6 @@ chosen-lasts : (rows : List ℕ) (k : Clock) (m : ℕ) → m < countsOf rows .ma
 unfolding chosen cpuAt currentFrame ticksLeft countNow countLast restOf waiting currentPartition
 chosen-lasts rows k m l s = record { major = s .major; next = l; minor = s .minor; left = s .left; last = s .last; room = s .room }
 
-elsewhere-left : (rows : List ℕ) (k k′ : Clock) (c : ℕ) → k′ .major ≡ k .major → cpuAt k′ c ≡ cpuAt k c
-    → ticksLeft k c ≤ currentFrame rows k c .length → ticksLeft k′ c ≤ currentFrame rows k′ c .length
-unfolding ticksLeft currentFrame
-elsewhere-left rows k k′ c m e h =
-    subst₂ (λ (i : ℕ) (x : CpuClock). x .left ≤ frameAt rows i c (x .minor) .length) (sym m) (sym e) h
-
-pub elsewhere-rest : (rows : List ℕ) (k k′ : Clock) (c : ℕ) → k′ .major ≡ k .major → cpuAt k′ c ≡ cpuAt k c → restOf rows k′ c ≡ restOf rows k c
-elsewhere-rest rows k k′ c m e =
-    rest-is rows k′ c
-    ∙ (ap (λ (i : ℕ). aheadOf rows i c (cpuAt k′ c)) m ∙ (ap (aheadOf rows (k .major) c) e ∙ sym (rest-is rows k c)))
-
-last-is : (k k′ : Clock) (q : ℕ) → k′ .last ≡ k .last → countLast k′ q ≡ countLast k q
-unfolding countLast
-last-is k k′ q e = ap (λ (l : List ℕ). getD l q 0) e
-
 opened-next : (rows : List ℕ) (k : Clock) → k .next < countsOf rows .majors → opened rows k .next < countsOf rows .majors
 unfolding opened
 opened-next rows k h = h
@@ -139,14 +125,6 @@ lasting-choose rows k t m l = lasting rows (chosen k m) (chosen-lasts rows k m l
 module _ (rows : List ℕ) (k : Clock) (s : Lasts rows k) (cpu : ℕ) (lc : cpu < countsOf rows .cpus) where
   -- one tick more of a CPU, charged to a partition of that CPU
   module _ (x : ℕ) (home : cpuOf rows x ≡ cpu) (k′ : Clock) (a : Advanced rows k cpu x k′) where
-    minor-at : (c : ℕ) → c < countsOf rows .cpus → Dec (c ≡ cpu) → cpuAt k′ c .minor < frameCount rows (k .major) c
-    minor-at c l (yes e) = subst (λ (i : ℕ). cpuAt k′ i .minor < frameCount rows (k .major) i) (sym e) (a .minor)
-    minor-at c l (no ne) = subst (λ (x : CpuClock). x .minor < frameCount rows (k .major) c) (sym (a .elsewhere c ne)) (s .minor c l)
-
-    left-at : (c : ℕ) → c < countsOf rows .cpus → Dec (c ≡ cpu) → ticksLeft k′ c ≤ currentFrame rows k′ c .length
-    left-at c l (yes e) = subst (λ (i : ℕ). ticksLeft k′ i ≤ currentFrame rows k′ i .length) (sym e) (a .left (s .left cpu lc))
-    left-at c l (no ne) = elsewhere-left rows k k′ c (a .major) (a .elsewhere c ne) (s .left c l)
-
     -- the sum of count and what is ahead is as it was
     room-at : (q : ℕ) → q < countsOf rows .partitions → Dec (cpuOf rows q ≡ cpu) → countNow k′ q + planned q (restOf rows k′ (cpuOf rows q)) ≤ mostCount
     unfolding occurs
@@ -161,7 +139,7 @@ module _ (rows : List ℕ) (k : Clock) (s : Lasts rows k) (cpu : ℕ) (lc : cpu 
         omega arith
     room-at q l (no ne) =
         let b = s .room q l in
-        let c = ap (planned q) (elsewhere-rest rows k k′ (cpuOf rows q) (a .major) (a .elsewhere (cpuOf rows q) ne)) in
+        let c = ap (planned q) (carried-rest rows k cpu x k′ a (cpuOf rows q) ne) in
         let f = a .count q in
         let g = other q ne in
         omega arith
@@ -174,9 +152,9 @@ module _ (rows : List ℕ) (k : Clock) (s : Lasts rows k) (cpu : ℕ) (lc : cpu 
         record {
           major = subst (λ (m : ℕ). m < countsOf rows .majors) (sym (a .major)) (s .major);
           next = subst (λ (m : ℕ). m < countsOf rows .majors) (sym (a .next)) (s .next);
-          minor = λ c l. subst (λ (m : ℕ). cpuAt k′ c .minor < frameCount rows m c) (sym (a .major)) (minor-at c l (ℕ-discrete c cpu));
-          left = λ c l. left-at c l (ℕ-discrete c cpu);
-          last = λ q l. let e = last-is k k′ q (a .last) in let h = s .last q l in omega arith;
+          minor = carried-minor rows k cpu x k′ a (s .minor);
+          left = carried-left rows k cpu x k′ a lc (s .left);
+          last = λ q l. let e = carried-last rows k cpu x k′ a q in let h = s .last q l in omega arith;
           room = λ q l. room-at q l (ℕ-discrete (cpuOf rows q) cpu);
         }
 
