@@ -1,7 +1,7 @@
 -- What a tick of a running CPU does before the frame is settled: one tick less is ahead of that CPU, its partition has one more, and nothing
 -- else is touched. The ledger's relation and lasting clocks both rest on this, and on nothing else of the tick.
-use Prim.Native.Nat.{ℕ, zero, suc, _+_, _-_, _<_, _≤_}
-use mathlib.Core.Bool.{Bool, true, false, cond, true≢false}
+use Prim.Native.Nat.{ℕ, _+_, _<_, _≤_}
+use mathlib.Core.Bool.{true, false, cond, true≢false}
 use mathlib.Core.List.{List, _∷_}
 use mathlib.Core.Path.{_≡_, refl, ap, sym, subst, _∙_}
 use native.Mathlib.Omega.{arith}
@@ -12,9 +12,7 @@ use lib.Seq.{getD-set-same, getD-set-other}
 use borrow.Author.Tests.{eq-eqb, ne-eqb, eqb-false, ltb-true, ltb-false, le-ltb}
 use Rattle.hexline.proofs.Cond.{by-cond}
 use Rattle.rows.specs.Lookups.{countsOf, cpuOf}
-use Rattle.rules.specs.Rules.{allBelow}
 use Rattle.rules.proofs.Below.{below-stop}
-use Rattle.meaning.specs.declared.answer.Frame.{Frame}
 use Rattle.meaning.specs.Lookups.{frameAt, frameCount}
 use Rattle.accepted.specs.Facts.{FrameFacts, Facts}
 use Rattle.clock.specs.declared.time.CpuClock.{CpuClock}

@@ -6,7 +6,7 @@ use mathlib.Core.List.{List, [], _∷_}
 use mathlib.Core.Path.{_≡_, refl, ap, _∙_}
 use native.Mathlib.Omega.{arith}
 use lib.Dec.{ltb}
-use lib.ListN.{length, take}
+use lib.ListN.{length}
 use lib.Seq.{take-all}
 use Rattle.hexline.proofs.Cond.{by-cond}
 use Rattle.clock.specs.Ledger.{Plan, laid, layout, planned, sum, plannedIn, occurs, Call, tick, choose, kept, Ledger, blank, charged, full, allFull, addOne, closed, settled, booked, bookedAll, ledger, countedIn}

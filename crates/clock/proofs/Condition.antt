@@ -1,9 +1,9 @@
 -- Condition three over every list of calls, by induction on the list: each kept call keeps the relation between clock and ledger, and a
 -- lasting clock; every other call is no call.
-use Prim.Native.Nat.{ℕ, suc, _+_, _<_, _≤_}
-use mathlib.Core.Bool.{Bool, true, cond}
+use Prim.Native.Nat.{ℕ, suc, _+_, _<_}
+use mathlib.Core.Bool.{true}
 use mathlib.Core.List.{List, [], _∷_}
-use mathlib.Core.Path.{_≡_, refl, ap, _∙_}
+use mathlib.Core.Path.{_≡_, ap, _∙_}
 use native.Mathlib.Omega.{arith}
 use lib.Dec.{ltb}
 use lib.ListN.{length}
@@ -12,7 +12,7 @@ use Rattle.hexline.proofs.Cond.{by-cond}
 use Rattle.rows.specs.Lookups.{countsOf}
 use Rattle.accepted.specs.Facts.{Facts}
 use Rattle.clock.specs.declared.time.Clock.{Clock}
-use Rattle.clock.specs.Time.{countNow, countLast, freshClock, tickOf, chosen}
+use Rattle.clock.specs.Time.{freshClock, tickOf, chosen}
 use Rattle.clock.specs.Ledger.{Plan, plannedIn, Call, tick, choose, kept, Finished, Ledger, blank, booked, bookedAll, ledger, countedLast}
 use Rattle.clock.specs.PlanOf.{planOf}
 use Rattle.clock.specs.Lasting.{lastingClock}

@@ -1,37 +1,29 @@
 -- Lasting clocks: what the test says, and that the start, a tick and a choice keep it. A tick moves one tick of a partition from what is ahead
 -- to its count, so their sum stays; at an opening, what is ahead is the plan, eight minor frames of 4,000 ticks at most.
-use Prim.Native.Nat.{ℕ, zero, suc, _+_, _<_, _≤_}
-use mathlib.Core.Bool.{Bool, true, false, cond, _&&_}
-use mathlib.Core.List.{List, _∷_}
-use mathlib.Core.Path.{_≡_, refl, ap, sym, subst, subst₂, _∙_}
+use Prim.Native.Nat.{ℕ, _+_, _<_, _≤_}
+use mathlib.Core.Bool.{true}
+use mathlib.Core.List.{List}
+use mathlib.Core.Path.{_≡_, refl, ap, sym, subst, _∙_}
 use native.Mathlib.Omega.{arith}
 use native.Mathlib.Decide.{ℕ-discrete}
 use lib.Dec.{ltb, leb, eqb}
-use lib.ListN.{getD}
 use borrow.Author.Tests.{ne-eqb, ltb-true, lt-ltb, leb-true, le-leb}
-use Rattle.hexline.proofs.Cond.{by-cond, both}
+use Rattle.hexline.proofs.Cond.{both}
 use Rattle.rows.specs.Lookups.{countsOf, cpuOf}
 use Rattle.rules.specs.Rules.{allBelow}
-use Rattle.meaning.specs.Lookups.{frameAt, frameCount}
+use Rattle.meaning.specs.Lookups.{frameCount}
 use Rattle.accepted.specs.Facts.{Facts}
 use Rattle.accepted.proofs.Numbers.{below-at}
-use Rattle.clock.specs.declared.time.CpuClock.{CpuClock}
 use Rattle.clock.specs.declared.time.Clock.{Clock}
-use Rattle.clock.specs.declared.time.Tick.the-variants.{Opened}
-use Rattle.clock.specs.declared.time.Ticked.{Ticked}
-use Rattle.clock.specs.Time.{cpuAt, currentFrame, currentPartition, ticksLeft, waiting, countNow, countLast, freshClock, opened, allFinished, mostCount, tickOf, chosen, cpuInRange, countInRange, clockInRange}
-use Rattle.clock.specs.Ledger.{laid, planned, one, occurs}
+use Rattle.clock.specs.Time.{cpuAt, currentFrame, currentPartition, ticksLeft, waiting, countNow, countLast, freshClock, opened, mostCount, chosen, cpuInRange, countInRange, clockInRange}
+use Rattle.clock.specs.Ledger.{planned, one, occurs}
 use Rattle.clock.specs.PlanOf.{restOf}
-use Rattle.clock.specs.Lasting.{roomFor, lastingClock, Formed}
-use Rattle.clock.specs.History.{opens, refuses}
-use Rattle.clock.specs.Lawful.{LastingTick}
-use Rattle.clock.proofs.Choices.{cond-true, cond-false, below-all}
+use Rattle.clock.specs.Lasting.{roomFor, lastingClock}
+use Rattle.clock.proofs.Choices.{cond-false, below-all}
 use Rattle.clock.proofs.Lists.{occurs-laid}
-use Rattle.clock.proofs.Minors.{aheadOf, rest-is}
-use Rattle.clock.proofs.Advance.{Ready, Advanced, Ran, part-home, ran}
-use Rattle.clock.proofs.Leaves.{leaves}
+use Rattle.clock.proofs.Advance.{Advanced}
 use Rattle.clock.proofs.Carried.{carried-minor, carried-left, carried-rest, carried-last}
-use Rattle.clock.proofs.Begun.{Begun, zeros, fresh-begun, opened-begun, begun-minor, begun-left, begun-busy, begun-room}
+use Rattle.clock.proofs.Begun.{zeros, fresh-begun, opened-begun, begun-minor, begun-left, begun-room}
 
 -- ---- what the test says
 

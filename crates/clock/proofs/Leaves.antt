@@ -1,21 +1,19 @@
 -- What a tick leaves alone, of any table and clock whatever: by the cases of the tick, of which each replaces one CPU's clock and one count,
 -- or opens a frame.
 use Prim.Native.Nat.{ℕ, zero, suc, _+_, _<_}
-use mathlib.Core.Bool.{Bool, true, false, cond, true≢false, false≢true}
+use mathlib.Core.Bool.{true, false, true≢false, false≢true}
 use mathlib.Core.List.{List}
-use mathlib.Core.Path.{_≡_, refl, ap, sym, _∙_}
+use mathlib.Core.Path.{_≡_, refl, sym, _∙_}
 use native.Mathlib.Omega.{arith}
 use lib.Dec.{ltb}
-use lib.ListN.{length, getD, set, replicate, length-set}
+use lib.ListN.{getD, length-set}
 use lib.Seq.{getD-set-same, getD-set-other}
 use borrow.Author.Tests.{ltb-true}
 use Rattle.hexline.proofs.Cond.{by-cond}
-use Rattle.meaning.specs.Lookups.{frameAt, frameCount}
 use Rattle.clock.specs.declared.time.CpuClock.{CpuClock}
 use Rattle.clock.specs.declared.time.Clock.{Clock}
 use Rattle.clock.specs.declared.time.Tick.{Tick}
 use Rattle.clock.specs.declared.time.Tick.the-variants.{Wait, GoOn, Moved, Opened, Refused}
-use Rattle.clock.specs.declared.time.Ticked.{Ticked}
 use Rattle.clock.specs.Time.{noCpu, cpuAt, currentPartition, ticksLeft, waiting, countNow, first, firsts, freshClock, withCpu, oneLess, lessLeft, moved, opened, allFinished, mostCount, tickOf, chosen}
 use Rattle.clock.specs.Time.{charged as chargedClock, settled as settledClock}
 use Rattle.clock.specs.Lasting.{Formed}

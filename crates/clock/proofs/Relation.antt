@@ -1,21 +1,20 @@
 -- What follows from a clock that keeps a ledger: full in the ledger is waiting in the clock, as equations of tests, so that both branch alike;
 -- and each count and what is ahead for it are together within the plan, so that no tick is refused.
-use Prim.Native.Nat.{ℕ, zero, suc, _+_, _<_, _≤_}
+use Prim.Native.Nat.{ℕ, _+_, _<_, _≤_}
 use mathlib.Core.Bool.{Bool, true, false, cond}
-use mathlib.Core.List.{List, [], _∷_}
+use mathlib.Core.List.{List}
 use mathlib.Core.Path.{_≡_, refl, ap, sym, subst, _∙_}
 use native.Mathlib.Omega.{arith}
 use lib.Dec.{eqb}
 use lib.ListN.{length, take, drop}
 use borrow.Author.Tests.{eq-eqb, ne-eqb, eqb-true, eqb-false}
 use Rattle.rows.specs.Lookups.{countsOf, cpuOf}
-use Rattle.rules.specs.Rules.{allBelow}
 use Rattle.rules.proofs.Below.{below-same}
 use Rattle.accepted.specs.Facts.{Facts}
 use Rattle.accepted.proofs.Numbers.{below-at}
 use Rattle.clock.specs.declared.time.Clock.{Clock}
 use Rattle.clock.specs.Time.{cpuAt, ticksLeft, waiting, finished, countNow, allFinished, mostCount}
-use Rattle.clock.specs.Ledger.{Plan, laid, layout, planned, sum, plannedIn, one, occurs, Ledger, charged, full, allFull, addOne, counted}
+use Rattle.clock.specs.Ledger.{Plan, laid, layout, planned, plannedIn, one, occurs, Ledger, charged, full, allFull, addOne, counted}
 use Rattle.clock.specs.PlanOf.{minorsOf, planOf, restOf}
 use Rattle.clock.specs.Keeps.{Keeps}
 use Rattle.clock.proofs.Choices.{cond-true, cond-false}

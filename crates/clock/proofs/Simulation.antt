@@ -1,37 +1,29 @@
 -- The clock keeps the ledger, one call at a time: at the start, by a tick and by a choice. A tick takes the head of what is ahead of its CPU,
 -- and the ledger adds one; both settle by the same test.
-use Prim.Native.Nat.{ℕ, zero, suc, _+_, _<_, _≤_}
-use mathlib.Core.Bool.{Bool, true, false, cond, true≢false}
-use mathlib.Core.List.{List, [], _∷_}
+use Prim.Native.Nat.{ℕ, _+_, _<_, _≤_}
+use mathlib.Core.List.{List}
 use mathlib.Core.Path.{_≡_, refl, ap, sym, subst, _∙_}
 use native.Mathlib.Omega.{arith}
 use native.Mathlib.Decide.{ℕ-discrete}
 use lib.Dec.{eqb}
-use lib.ListN.{length, drop, getD}
+use lib.ListN.{length, drop}
 use borrow.Author.Tests.{eq-eqb, ne-eqb}
-use Rattle.hexline.proofs.Cond.{by-cond}
 use Rattle.rows.specs.Lookups.{countsOf}
-use Rattle.meaning.specs.Lookups.{frameCount}
 use Rattle.accepted.specs.Facts.{Facts}
-use Rattle.clock.specs.declared.time.CpuClock.{CpuClock}
 use Rattle.clock.specs.declared.time.Clock.{Clock}
-use Rattle.clock.specs.declared.time.Tick.{Tick}
-use Rattle.clock.specs.declared.time.Tick.the-variants.{Wait, Opened}
-use Rattle.clock.specs.declared.time.Ticked.{Ticked}
-use Rattle.clock.specs.Time.{cpuAt, currentFrame, currentPartition, ticksLeft, waiting, countNow, countLast, freshClock, opened, allFinished, tickOf, chosen}
-use Rattle.clock.specs.Ledger.{laid, layout, one, tick, choose, Ledger, blank, charged, full, allFull, addOne, closed, settled, booked, counted, countedIn, countedLast}
+use Rattle.clock.specs.Time.{cpuAt, currentFrame, currentPartition, ticksLeft, waiting, countNow, countLast, freshClock, opened, chosen}
+use Rattle.clock.specs.Ledger.{laid, layout, one, choose, Ledger, blank, charged, addOne, closed, booked, counted, countedIn, countedLast}
 use Rattle.clock.specs.PlanOf.{minorsOf, planOf, restOf}
 use Rattle.clock.specs.Lasting.{Formed}
-use Rattle.clock.specs.History.{waits, opens, refuses}
-use Rattle.clock.specs.Keeps.{Keeps, Charges, TickKeeps, planNext}
+use Rattle.clock.specs.Keeps.{Keeps}
 use Rattle.clock.proofs.Choices.{cond-true, cond-false}
 use Rattle.clock.proofs.Lists.{Place, place-of}
-use Rattle.clock.proofs.Advance.{Advanced, Ran, part-known, part-home, ran}
-use Rattle.clock.proofs.Leaves.{formed-fresh, formed-choose, formed-opened, tick-waits}
+use Rattle.clock.proofs.Advance.{Advanced}
+use Rattle.clock.proofs.Leaves.{formed-fresh, formed-choose, formed-opened}
 use Rattle.clock.proofs.Begun.{Begun, zeros, fresh-begun, opened-begun, begun-rest, begun-minor}
 use Rattle.clock.proofs.Carried.{carried-minor, carried-rest, carried-last}
 use Rattle.clock.proofs.Lasts.{opened-last}
-use Rattle.clock.proofs.Relation.{counted-more, counted-none, full-at, full-waits, all-same, ready}
+use Rattle.clock.proofs.Relation.{counted-more, counted-none}
 
 -- ---- the beginning of a frame
 

@@ -2,10 +2,10 @@
 -- partition that the plan has there, and clock and ledger open a frame together.
 use Prim.Native.Nat.{ℕ, _+_, _<_}
 use mathlib.Core.Bool.{Bool, true, false, cond, true≢false}
-use mathlib.Core.List.{List, _∷_}
+use mathlib.Core.List.{List}
 use mathlib.Core.Path.{_≡_, refl, ap, sym, subst, _∙_}
 use native.Mathlib.Omega.{arith}
-use lib.ListN.{length, getD}
+use lib.ListN.{length}
 use Rattle.hexline.proofs.Cond.{by-cond}
 use Rattle.rows.specs.Lookups.{countsOf}
 use Rattle.accepted.specs.Facts.{Facts}
@@ -14,7 +14,7 @@ use Rattle.clock.specs.declared.time.Tick.{Tick}
 use Rattle.clock.specs.declared.time.Tick.the-variants.{Wait, Opened}
 use Rattle.clock.specs.declared.time.Ticked.{Ticked}
 use Rattle.clock.specs.Time.{currentPartition, waiting, countNow, opened, allFinished, tickOf}
-use Rattle.clock.specs.Ledger.{layout, one, tick, Ledger, charged, full, allFull, addOne, closed, settled, booked, counted, countedIn, countedLast}
+use Rattle.clock.specs.Ledger.{one, Ledger, full, allFull, addOne, closed, settled, booked, counted, countedLast}
 use Rattle.clock.specs.PlanOf.{planOf}
 use Rattle.clock.specs.History.{waits, opens, refuses}
 use Rattle.clock.specs.Keeps.{Keeps, Charges, TickKeeps, planNext}

@@ -6,7 +6,6 @@ use mathlib.Core.List.{List, [], _∷_, map}
 use mathlib.Core.Path.{_≡_, refl}
 use Rattle.records.specs.declared.kind.Record.{Record}
 use Rattle.records.specs.declared.kind.Record.the-variants.{Header, Partition, Group, Subject, Frame, End}
-use Rattle.records.specs.Kinds.{kindOf, bytesOf, headerIn}
 use Rattle.rows.specs.Places.{framesPlace, placeOf}
 use Rattle.rows.specs.Rows.{rowOf}
 use Rattle.rows.specs.Table.{table}

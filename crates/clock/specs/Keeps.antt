@@ -1,7 +1,7 @@
 -- A clock keeps a ledger: the relation between them, and what one tick then does. What is related is what is LEFT: the plan of this frame
 -- without the ticks that the ledger has done is what the clock has ahead, tick by tick.
 use Prim.Native.Nat.{ℕ, _+_, _<_, _≤_}
-use mathlib.Core.Bool.{Bool, true, false, cond}
+use mathlib.Core.Bool.{true, false, cond}
 use mathlib.Core.List.{List}
 use mathlib.Core.Path.{_≡_}
 use lib.ListN.{length, drop, getD}

@@ -2,7 +2,7 @@
 -- each partition has what the plan gives it, no more at any time and no less at a frame's end. And what makes the refusal of a tick
 -- impossible: lasting clocks, which every call keeps.
 use Prim.Native.Nat.{ℕ, _+_, _<_, _≤_}
-use mathlib.Core.Bool.{Bool, true, false}
+use mathlib.Core.Bool.{true, false}
 use mathlib.Core.List.{List, [], _∷_}
 use mathlib.Core.Path.{_≡_}
 use lib.ListN.{length}
