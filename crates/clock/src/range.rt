@@ -25,14 +25,14 @@ impl Clock {
     fn cpus_in_range(self, rows: &[u64], count: u8) -> bool
         ensures { λ r. ⌜ r ≡ allBelow count (cpuInRange (now (rows .entry)) self) ⌝ }
     {
-        if count == 0 {
-            return true;
+        let mut cpu: u8 = 0;
+        while cpu < count {
+            if !self.cpu_in_range(rows, cpu) {
+                return false;
+            }
+            cpu += 1;
         }
-        let cpu = count - 1;
-        if !self.cpu_in_range(rows, cpu) {
-            return false;
-        }
-        self.cpus_in_range(rows, cpu)
+        true
     }
 
     // The counts of a partition.
@@ -48,14 +48,14 @@ impl Clock {
     fn counts_in_range(self, count: u8) -> bool
         ensures { λ r. ⌜ r ≡ allBelow count (countInRange self) ⌝ }
     {
-        if count == 0 {
-            return true;
+        let mut partition: u8 = 0;
+        while partition < count {
+            if !self.count_in_range(partition) {
+                return false;
+            }
+            partition += 1;
         }
-        let partition = count - 1;
-        if !self.count_in_range(partition) {
-            return false;
-        }
-        self.counts_in_range(partition)
+        true
     }
 
     pub fn in_range(self, rows: &[u64]) -> bool

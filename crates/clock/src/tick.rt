@@ -2,7 +2,7 @@
 ghost use mathlib.Core.Path.{_≡_};
 ghost use Prim.Native.Nat.{_≤_};
 ghost use Rattle.rules.specs.Rules.{allBelow};
-ghost use Rattle.clock.specs.Time.{mostCount, countNow, finished, withCpu, charged, oneLess, lessLeft, moved, opened, allFinished, settled, tickOf, chosen};
+ghost use Rattle.clock.specs.Time.{mostCount, countNow, finished, withCpu, charged, oneLess, lessLeft, moved, opened, settled, tickOf, chosen};
 use crate::time::CPUS;
 use crate::time::Clock;
 use crate::time::CpuClock;
@@ -103,14 +103,14 @@ impl Clock {
     fn finished_below(self, count: u8) -> bool
         ensures { λ r. ⌜ r ≡ allBelow count (finished self) ⌝ }
     {
-        if count == 0 {
-            return true;
+        let mut cpu: u8 = 0;
+        while cpu < count {
+            if !self.finished(cpu) {
+                return false;
+            }
+            cpu += 1;
         }
-        let cpu = count - 1;
-        if !self.finished(cpu) {
-            return false;
-        }
-        self.finished_below(cpu)
+        true
     }
 
     // Where all wait, a major frame opens.

@@ -1,6 +1,7 @@
 // The clock: where each CPU stands in the plan, and what each partition has had. What it says of a CPU or a partition that no
 // policy has is that it waits, or that it has had nothing.
 ghost use mathlib.Core.Path.{_≡_};
+ghost use lib.ListN.{getD};
 ghost use Rattle.clock.specs.Time.{cpuAt, currentFrame, currentPartition, ticksLeft, waiting, finished, countNow, countLast, first, firsts, freshClock};
 use meaning::Frame;
 use meaning::frame_at;
@@ -96,22 +97,16 @@ impl Clock {
     pub fn count_now(self, partition: u8) -> u16
         ensures { λ r. ⌜ r ≡ countNow self partition ⌝ }
     {
-        if PARTITIONS <= partition {
-            return 0;
-        }
-        let at = partition as usize;
-        self.now[at]
+        let counts = self.now;
+        count_in(counts, partition)
     }
 
     // Its count in the last finished one.
     pub fn count_last(self, partition: u8) -> u16
         ensures { λ r. ⌜ r ≡ countLast self partition ⌝ }
     {
-        if PARTITIONS <= partition {
-            return 0;
-        }
-        let at = partition as usize;
-        self.last[at]
+        let counts = self.last;
+        count_in(counts, partition)
     }
 
     // The clock at the start.
@@ -127,6 +122,17 @@ impl Clock {
             last: [0u16; 8],
         }
     }
+}
+
+// A partition's count among the counts of all.
+fn count_in(counts: [u16; 8], partition: u8) -> u16
+    ensures { λ r. ⌜ r ≡ getD counts partition 0 ⌝ }
+{
+    if PARTITIONS <= partition {
+        return 0;
+    }
+    let at = partition as usize;
+    counts[at]
 }
 
 // A CPU at its first minor frame of a major.
