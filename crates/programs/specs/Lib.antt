@@ -6,3 +6,4 @@ pub mod Source
 pub mod Entering
 pub mod Fresh
 pub mod Range
+pub mod Rounds
