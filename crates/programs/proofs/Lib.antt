@@ -1,1 +1,4 @@
 pub mod RoundLaws
+pub mod FreshLaws
+pub mod RangeTest
+pub mod RangeLaws

@@ -165,11 +165,11 @@ module _ (rows : List ℕ) (s : Programs) (q : ℕ) where
       go true u = let k : active ≡ g = cc (sym (stays u) ∙ e) in subst P k (here u)
       go false u = next g (sym (moves u) ∙ e)
 
-  next-runs : (g : ℕ) → nextOf rows s q ≡ At g → mayRun rows s q g ≡ true
+  pub next-runs : (g : ℕ) → nextOf rows s q ≡ At g → mayRun rows s q g ≡ true
   unfolding nextOf
   next-runs g e = found groups active g e .runs
 
-  next-counted : 0 < groups → (g : ℕ) → nextOf rows s q ≡ At g → g < groups
+  pub next-counted : 0 < groups → (g : ℕ) → nextOf rows s q ≡ At g → g < groups
   unfolding nextOf
   next-counted p g e = counted groups active g p e
 
