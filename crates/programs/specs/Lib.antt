@@ -1,5 +1,6 @@
 pub mod Records
 pub mod Parts
+pub mod Formed
 pub mod Round
 pub mod Signals
 pub mod Source
