@@ -7,3 +7,4 @@ pub mod Source
 pub mod Entering
 pub mod Fresh
 pub mod Range
+pub mod Exactly
