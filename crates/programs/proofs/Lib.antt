@@ -1,3 +1,4 @@
 pub mod PartLaws
 pub mod SignalLaws
 pub mod RoutedLaws
+pub mod SourceLaws
