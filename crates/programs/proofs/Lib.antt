@@ -2,3 +2,4 @@ pub mod PartLaws
 pub mod SignalLaws
 pub mod RoutedLaws
 pub mod SourceLaws
+pub mod WakeLaws

@@ -59,12 +59,12 @@ module _ (s : Programs) where
 
 -- ---- routed exactly
 
-abbrev RouteFits : List ℕ → Route → Type 0
+abbrev pub RouteFits : List ℕ → Route → Type 0
 RouteFits rows route.Nowhere = Unit
 RouteFits rows (route.To x v line) = (x < countsOf rows .subjects) × ((v .0 ≤ 255) × MaskingFits line)
 
 module _ (rows : List ℕ) (h : Facts rows) where
-  route-fits : (host : HostVector) → RouteFits rows (routeOf rows host)
+  pub route-fits : (host : HostVector) → RouteFits rows (routeOf rows host)
   route-fits host = go (routeOf rows host) refl
     where
       go : (r : Route) → routeOf rows host ≡ r → RouteFits rows r

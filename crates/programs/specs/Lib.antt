@@ -8,3 +8,4 @@ pub mod Entering
 pub mod Fresh
 pub mod Range
 pub mod Exactly
+pub mod Wakes
