@@ -3,3 +3,4 @@ pub mod SignalLaws
 pub mod RoutedLaws
 pub mod SourceLaws
 pub mod WakeLaws
+pub mod EnteringLaws

@@ -1,7 +1,7 @@
 -- "Fresh: .. all groups awake, lowest group and lowest subject active, nothing pending, all subjects closed to interrupts,
 -- no IRQ line masked"; and, "beside a refused start", all zeros.
 use Prim.Native.Nat.{ℕ, zero, suc, _+_}
-use mathlib.Core.Bool.{Bool, true, cond}
+use mathlib.Core.Bool.{Bool, true, false, cond}
 use mathlib.Core.List.{List, [], _∷_}
 use lib.ListN.{replicate}
 use lib.Dec.{eqb}

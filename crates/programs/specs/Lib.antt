@@ -9,3 +9,4 @@ pub mod Fresh
 pub mod Range
 pub mod Exactly
 pub mod Wakes
+pub mod EntryMarks
