@@ -4,3 +4,5 @@ pub mod RoutedLaws
 pub mod SourceLaws
 pub mod WakeLaws
 pub mod EnteringLaws
+pub mod StillLaws
+pub mod Laws

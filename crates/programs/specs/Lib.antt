@@ -10,3 +10,5 @@ pub mod Range
 pub mod Exactly
 pub mod Wakes
 pub mod EntryMarks
+pub mod Still
+pub mod Lawful
