@@ -8,7 +8,7 @@ use mathlib.Core.Path.{_≡_, refl, sym, ap, _∙_}
 use native.Mathlib.Omega.{arith}
 use native.Mathlib.Decide.{ℕ-discrete}
 use lib.Dec.{eqb}
-use lib.ListN.{length, getD, replicate}
+use lib.ListN.{getD, replicate}
 use borrow.Author.Tests.{eq-eqb}
 use Rattle.bits.specs.Sets.{has64, none64, none256}
 use Rattle.bits.proofs.Sets.{one-word, four-words}
@@ -71,11 +71,6 @@ laid-at item from (suc left) zero d l = let e : from ≡ from + 0 = omega arith 
 laid-at item from (suc left) (suc i) d l =
     let e : from + 1 + i ≡ from + suc i = omega arith in
     laid-at item (from + 1) left i d (omega arith) ∙ ap item e
-
-pub laid-long : {A : Type 0} (item : ℕ → A) (from left : ℕ) → length (listFrom item from left) ≡ left
-unfolding listFrom
-laid-long item from zero = refl
-laid-long item from (suc left) = ap suc (laid-long item (from + 1) left)
 
 -- a list of one item, read with that item where it ends
 all-same : {A : Type 0} (n i : ℕ) (a : A) → getD (replicate n a) i a ≡ a

@@ -1,4 +1,12 @@
+pub mod PartLaws
+pub mod SignalLaws
+pub mod RoutedLaws
+pub mod SourceLaws
+pub mod WakeLaws
+pub mod EnteringLaws
+pub mod StillLaws
 pub mod RoundLaws
 pub mod FreshLaws
 pub mod RangeTest
 pub mod RangeLaws
+pub mod Laws

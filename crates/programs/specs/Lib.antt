@@ -1,5 +1,6 @@
 pub mod Records
 pub mod Parts
+pub mod Formed
 pub mod Round
 pub mod Signals
 pub mod Source
@@ -8,3 +9,8 @@ pub mod Fresh
 pub mod Range
 pub mod Rounds
 pub mod Sound
+pub mod Exactly
+pub mod Wakes
+pub mod EntryMarks
+pub mod Still
+pub mod Lawful
