@@ -5,4 +5,4 @@ pub mod SourceLaws
 pub mod WakeLaws
 pub mod EnteringLaws
 pub mod StillLaws
-pub mod Laws
+pub mod Conditions
