@@ -1,3 +1,5 @@
+pub mod Laws
+pub mod CodeLaws
 pub mod PartLaws
 pub mod SignalLaws
 pub mod RoutedLaws
