@@ -1,55 +1,25 @@
--- The laws of `specs/Lawful.antt`, put together. Here itself: each step keeps the number of partitions, groups and subjects, since a store
--- keeps the length of a list.
-use Prim.Native.Nat.{ℕ, zero, suc, _+_}
-use mathlib.Core.List.{List}
-use mathlib.Core.Path.{_≡_, refl, ap}
-use lib.ListN.{length}
-use Rattle.meaning.specs.Lookups.{routeOf}
-use Rattle.programs.specs.Formed.{Formed}
-use Rattle.programs.specs.Signals.{interrupted}
-use Rattle.programs.specs.Fresh.{listFrom, lowestGroup, freshActives, freshGroup, freshGroups, freshPrograms, zeroPrograms}
-use Rattle.programs.specs.Lawful.{FormedKept, Lawful}
-use Rattle.programs.proofs.PartLaws.{active-formed, subject-formed}
-use Rattle.programs.proofs.RoutedLaws.{routed-formed, routed-exactly}
-use Rattle.programs.proofs.SourceLaws.{acted-exactly, signalled-exactly, handled-formed, listed-fits}
-use Rattle.programs.proofs.WakeLaws.{wakes-kept}
-use Rattle.programs.proofs.EnteringLaws.{entry-marks, entering-formed}
-use Rattle.programs.proofs.StillLaws.{no-switch, elsewhere-still}
+-- Laws of arrays that the proofs of this crate's functions cite: the length of an array of structs, and reads and stores at its places
+-- and past its end. Assumes nothing.
+use mathlib.Core.Path.{_≡_, refl, sym, _∙_}
+use mathlib.Core.List.{List, [], _∷_, map}
+use Prim.Native.Nat.{ℕ, zero, suc, _≤_, _<_}
+use native.Mathlib.Omega.{arith}
+use lib.ListN.{getD, set, length, length-map, List·getD-eq-default}
+use lib.Seq.{set-out}
 
-list-long : {A : Type 0} (item : ℕ → A) (n from : ℕ) → length (listFrom item from n) ≡ n
-unfolding listFrom
-list-long item zero from = refl
-list-long item (suc n) from = ap suc (list-long item n (from + 1))
+-- the length of an array of structs, from what owning it tells
+pub length-mapped : (X Y : Type 0) (f : X → Y) (l : List X) (n : ℕ) → length (map f l) ≡ n → length l ≡ n
+length-mapped X Y f l n e = sym (length-map l f) ∙ e
 
-fresh-formed : (rows : List ℕ) → Formed (freshPrograms rows)
-unfolding freshPrograms freshActives freshGroups
-fresh-formed rows = record { actives = list-long (lowestGroup rows) 8 0; groups = list-long (freshGroup rows) 16 0; subjects = refl }
+-- a read past the end, and a store there
+pub read-out : {X : Type 0} (l : List X) (i n : ℕ) (d : X) → length l ≡ n → n ≤ i → d ≡ getD l i d
+read-out l i n d e h = sym (List·getD-eq-default l d (omega arith))
 
-zero-formed : Formed zeroPrograms
-unfolding zeroPrograms
-zero-formed = record { actives = refl; groups = refl; subjects = refl }
+pub store-out : {X : Type 0} (l : List X) (i n : ℕ) (a : X) → length l ≡ n → n ≤ i → set l i a ≡ l
+store-out l i n a e h = set-out l i a (omega arith)
 
-formed-kept : FormedKept
-unfolding interrupted
-formed-kept = record {
-  fresh = fresh-formed;
-  zero = zero-formed;
-  interrupted = λ rows s host f. routed-formed rows s (routeOf rows host) f;
-  handled = handled-formed;
-  entered = entering-formed;
-  moved = active-formed;
-  stored = subject-formed;
-}
-
-pub laws : Lawful
-laws = record {
-  formed = formed-kept;
-  routed-exactly = routed-exactly;
-  acted-exactly = acted-exactly;
-  signalled-exactly = signalled-exactly;
-  listed-fits = listed-fits;
-  no-lost-wake = wakes-kept;
-  entry-marks = entry-marks;
-  no-switch = no-switch;
-  elsewhere-still = elsewhere-still;
-}
+-- a read at a place is the same whatever is said of what lies past the end
+pub read-any : {X : Type 0} (l : List X) (i : ℕ) (a b : X) → i < length l → getD l i a ≡ getD l i b
+read-any [] i a b h = absurd (omega arith)
+read-any (x ∷ l) zero a b h = refl
+read-any (x ∷ l) (suc i) a b h = read-any l i a b (omega arith)

@@ -1,3 +1,5 @@
+pub mod Laws
+pub mod CodeLaws
 pub mod PartLaws
 pub mod SignalLaws
 pub mod RoutedLaws
@@ -9,4 +11,4 @@ pub mod RoundLaws
 pub mod FreshLaws
 pub mod RangeTest
 pub mod RangeLaws
-pub mod Laws
+pub mod Conditions
