@@ -15,6 +15,8 @@ use Rattle.programs.proofs.SourceLaws.{acted-exactly, signalled-exactly
 use Rattle.programs.proofs.WakeLaws.{wakes-kept}
 use Rattle.programs.proofs.EnteringLaws.{entry-marks, entering-formed}
 use Rattle.programs.proofs.StillLaws.{no-switch, elsewhere-still}
+use Rattle.programs.proofs.RoundLaws.{rounds}
+use Rattle.programs.proofs.RangeLaws.{sound}
 
 list-long : {A : Type 0} (item : ℕ → A) (n from : ℕ) → length (listFrom item from n) ≡ n
 unfolding listFrom
@@ -52,4 +54,6 @@ laws = record {
   entry-marks = entry-marks;
   no-switch = no-switch;
   elsewhere-still = elsewhere-still;
+  rounds = rounds;
+  sound = sound;
 }

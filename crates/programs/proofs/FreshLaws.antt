@@ -80,9 +80,13 @@ all-same (suc n) (suc i) a = all-same n i a
 
 -- ---- the fresh programs
 
-fresh-pending : hasPending freshSubject ≡ false
+pub fresh-pending : hasPending freshSubject ≡ false
 unfolding hasPending freshSubject
 fresh-pending = rw (none-empty one-word none64 (λ k l. one-word .none-has k), none-empty four-words none256 (λ k l. four-words .none-has k))
+
+pub fresh-subject : (rows : List ℕ) (x : ℕ) → subjectAt (freshPrograms rows) x ≡ freshSubject
+unfolding subjectAt freshPrograms
+fresh-subject rows x = all-same 16 x freshSubject
 
 module _ (rows : List ℕ) (f : Facts rows) where
   active-is : (q : ℕ) → q < 8 → activeGroup (freshPrograms rows) q ≡ lowestGroup rows q
@@ -96,10 +100,6 @@ module _ (rows : List ℕ) (f : Facts rows) where
   front-is : (g : ℕ) → g < 16 → activeSubject (freshPrograms rows) g ≡ lowestSubject rows g
   unfolding activeSubject freshGroup
   front-is g l = ap (λ (y : Group). y .active) (group-is g l)
-
-  subject-is : (x : ℕ) → subjectAt (freshPrograms rows) x ≡ freshSubject
-  unfolding subjectAt freshPrograms
-  subject-is x = all-same 16 x freshSubject
 
   pub lowest-group : (q : ℕ) → q < countsOf rows .partitions
       → Lowest (λ g. eqb (partitionOf rows g) q) (countsOf rows .groups) (activeGroup (freshPrograms rows) q)
@@ -119,7 +119,7 @@ module _ (rows : List ℕ) (f : Facts rows) where
 
   closed : (x : ℕ) → subjectAt (freshPrograms rows) x .«open» ≡ false
   unfolding freshSubject
-  closed x = ap (λ (y : Subject). y .«open») (subject-is x)
+  closed x = ap (λ (y : Subject). y .«open») (fresh-subject rows x)
 
   unmasked : (line : ℕ) → has64 (freshPrograms rows .masks) line ≡ false
   unfolding freshPrograms
@@ -132,7 +132,7 @@ module _ (rows : List ℕ) (f : Facts rows) where
         awake = λ g l. rw (group-is g (omega (arith, f .counts .groups .1)));
         group = lowest-group;
         subject = lowest-subject;
-        pending = λ x. rw (subject-is x) fresh-pending;
+        pending = λ x. rw (fresh-subject rows x) fresh-pending;
         closed = closed;
         unmasked = unmasked;
       }

@@ -1,6 +1,7 @@
 pub mod Laws
 pub mod CodeLaws
 pub mod PartLaws
+pub mod FreshLaws
 pub mod SignalLaws
 pub mod RoutedLaws
 pub mod SourceLaws
@@ -8,7 +9,6 @@ pub mod WakeLaws
 pub mod EnteringLaws
 pub mod StillLaws
 pub mod RoundLaws
-pub mod FreshLaws
 pub mod RangeTest
 pub mod RangeLaws
 pub mod Conditions

@@ -4,7 +4,7 @@
 use Prim.Native.Nat.{ℕ, zero, suc, _<_}
 use mathlib.Core.Bool.{cond}
 use mathlib.Core.List.{List, [], _∷_}
-use mathlib.Core.Path.{_≡_, refl, _∙_}
+use mathlib.Core.Path.{_≡_, refl, ap, _∙_}
 use native.Mathlib.Decide.{ℕ-discrete}
 use lib.Dec.{eqb}
 use lib.ListN.{length, getD, set, length-set}
@@ -27,14 +27,18 @@ read-stored {A} xs n i k x d long l = go (ℕ-discrete k i)
     go (yes e) = rw (e, eq-eqb i i refl) (getD-set-same xs i x d (rw long l))
     go (no e) = rw (ne-eqb k i e) (getD-set-other xs i k x d e)
 
+-- what holds of the item that was there, and of the one stored where it is read, holds of what is read after
+pub read-after : {A : Type 0} (P : A → Type 0) (xs : List A) (i k : ℕ) (x d : A) → P (getD xs k d) → (k ≡ i → P x) → P (getD (set xs i x) k d)
+read-after P [] i k x d p f = p
+read-after P (y ∷ ys) zero zero x d p f = f refl
+read-after P (y ∷ ys) zero (suc k) x d p f = p
+read-after P (y ∷ ys) (suc i) zero x d p f = p
+read-after P (y ∷ ys) (suc i) (suc k) x d p f = read-after P ys i k x d p (λ e. f (ap suc e))
+
 -- what a stored item has in common with the one before is the same at every place
 read-kept : {A B : Type 0} (part : A → B) (xs : List A) (i k : ℕ) (x d : A) → part x ≡ part (getD xs i d)
     → part (getD (set xs i x) k d) ≡ part (getD xs k d)
-read-kept part [] i k x d e = refl
-read-kept part (y ∷ ys) zero zero x d e = e
-read-kept part (y ∷ ys) zero (suc k) x d e = refl
-read-kept part (y ∷ ys) (suc i) zero x d e = refl
-read-kept part (y ∷ ys) (suc i) (suc k) x d e = read-kept part ys i k x d e
+read-kept part xs i k x d e = read-after (λ z. part z ≡ part (getD xs k d)) xs i k x d refl (λ q. rw q e)
 
 -- ---- a group stored
 

@@ -2,13 +2,12 @@
 -- sleeping, marking and taking store no active group and no active subject; the search finds a group of the partition; a handover stays
 -- in its group and a masked line is below 24 (`Facts`). That a word is below 2 ^ 24 is that it has no line from 24 on.
 -- Assumes nothing.
-use Prim.Native.Nat.{ℕ, zero, suc, _^_, _≤_, _<_}
+use Prim.Native.Nat.{ℕ, _^_, _≤_, _<_}
 use mathlib.Core.Bool.{Bool, true, false, not, _&&_}
-use mathlib.Core.List.{List, [], _∷_}
+use mathlib.Core.List.{List}
 use mathlib.Core.Path.{_≡_, refl, sym, ap, _∙_}
 use native.Mathlib.Omega.{arith}
 use lib.Dec.{eqb}
-use lib.ListN.{getD, set}
 use lib.Pow.{pow-pos}
 use borrow.Author.Tests.{eqb-true}
 use Rattle.hexline.proofs.Cond.{by-cond}
@@ -41,19 +40,12 @@ use Rattle.programs.specs.Source.{movedTo, yielded, slept, handedOver, u
 use Rattle.programs.specs.Entering.{entering}
 use Rattle.programs.specs.Fresh.{freshPrograms}
 use Rattle.programs.specs.Sound.{Of, GroupOf, SubjectOf, InRange, Lowest, Sound}
+use Rattle.programs.proofs.PartLaws.{read-after}
 use Rattle.programs.proofs.RoundLaws.{rounds, runs-here, next-runs, next-counted}
 use Rattle.programs.proofs.RangeTest.{ranges}
 use Rattle.programs.proofs.FreshLaws.{lowest, fresh}
 
 -- ---- stores
-
--- what holds of the item that was there, and of the one stored where it is read, holds of what is read after
-stored : {A : Type 0} (P : A → Type 0) (xs : List A) (i k : ℕ) (x d : A) → P (getD xs k d) → (k ≡ i → P x) → P (getD (set xs i x) k d)
-stored P [] i k x d p f = p
-stored P (y ∷ ys) zero zero x d p f = f refl
-stored P (y ∷ ys) zero (suc k) x d p f = p
-stored P (y ∷ ys) (suc i) zero x d p f = p
-stored P (y ∷ ys) (suc i) (suc k) x d p f = stored P ys i k x d p (λ e. f (ap suc e))
 
 module _ (rows : List ℕ) (s : Programs) (r : InRange rows s) where
   subject-range : (subject : ℕ) (x : Subject) → InRange rows (withSubject s subject x)
@@ -69,7 +61,7 @@ module _ (rows : List ℕ) (s : Programs) (r : InRange rows s) where
   active-range partition group o =
       record {
         group = λ q l.
-            stored (λ (g : ℕ). GroupOf rows q g) (s .actives) partition q group 0 (r .group q l) (λ e. rw e o);
+            read-after (λ (g : ℕ). GroupOf rows q g) (s .actives) partition q group 0 (r .group q l) (λ e. rw e o);
         subject = r .subject;
         masks = r .masks;
       }
@@ -80,7 +72,7 @@ module _ (rows : List ℕ) (s : Programs) (r : InRange rows s) where
   group-stored group x o =
       record {
         group = r .group;
-        subject = λ g l. stored (λ (y : Group). SubjectOf rows g (y .active)) (s .groups) group g x noGroup (r .subject g l) (o g l);
+        subject = λ g l. read-after (λ (y : Group). SubjectOf rows g (y .active)) (s .groups) group g x noGroup (r .subject g l) (o g l);
         masks = r .masks;
       }
 

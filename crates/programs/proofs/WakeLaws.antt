@@ -6,13 +6,9 @@ use mathlib.Core.List.{List}
 use mathlib.Core.Path.{_≡_, refl, ap, sym, _∙_}
 use native.Mathlib.Decide.{ℕ-discrete}
 use lib.Dec.{eqb}
-use lib.ListN.{getD, replicate}
 use borrow.Author.Tests.{eq-eqb}
 use Rattle.rows.specs.Lookups.{countsOf, groupOf}
 use Rattle.hexline.proofs.Cond.{by-cond}
-use Rattle.bits.specs.Sets.{none64, none256}
-use Rattle.bits.proofs.Sets.{one-word, four-words}
-use Rattle.bits.proofs.Callers.{none-empty}
 use Rattle.meaning.specs.declared.answer.Action.{Action}
 use Rattle.meaning.specs.declared.answer.Action.the-variants.{Nothing, Sleep, Yield, Handover, Unmask, Reboot, PowerOff, Panic}
 use Rattle.meaning.specs.declared.answer.Route.{Route}
@@ -37,6 +33,7 @@ use Rattle.programs.specs.Wakes.{NoLostWake, WakesKept}
 use Rattle.programs.proofs.PartLaws.{group-other, group-kept, subject-of-group, subject-other, subject-kept, group-of-subject, group-of-active, subject-of-active, group-of-masks, subject-of-masks}
 use Rattle.programs.proofs.SignalLaws.{woke-subjects, pending-awake, group-inside}
 use Rattle.programs.proofs.RoutedLaws.{RouteFits, route-fits, masked-groups, masked-subjects}
+use Rattle.programs.proofs.FreshLaws.{fresh-subject, fresh-pending}
 use Rattle.programs.proofs.SourceLaws.{moved-subjects, moved-groups, pending-found, acted-formed}
 
 module _ (rows : List ℕ) (s : Programs) (n : NoLostWake rows s) where
@@ -117,19 +114,8 @@ routed-wakes rows s n (route.To x v line) h f k =
     kept-wakes rows _ (pending-wakes rows s n x _ h f (k .0)) _ (masked-subjects _ line) (masked-groups _ line)
 
 -- nothing is pending at the start
-fresh-pending : hasPending freshSubject ≡ false
-unfolding hasPending freshSubject
-fresh-pending =
-    rw (none-empty one-word none64 (λ k l. one-word .none-has k), none-empty four-words none256 (λ k l. four-words .none-has k))
-
 fresh-wakes : (rows : List ℕ) → NoLostWake rows (freshPrograms rows)
-unfolding freshPrograms subjectAt
-fresh-wakes rows = record { awake = λ x l e. absurd (true≢false (sym e ∙ ap hasPending (all-same 16 x) ∙ fresh-pending)) }
-  where
-    all-same : (m i : ℕ) → getD (replicate m freshSubject) i freshSubject ≡ freshSubject
-    all-same zero i = refl
-    all-same (suc m) zero = refl
-    all-same (suc m) (suc i) = all-same m i
+fresh-wakes rows = record { awake = λ x l e. absurd (true≢false (sym e ∙ ap hasPending (fresh-subject rows x) ∙ fresh-pending)) }
 
 pub wakes-kept : WakesKept
 unfolding interrupted handled

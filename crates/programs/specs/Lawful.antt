@@ -15,6 +15,8 @@ use Rattle.programs.specs.Signals.{interrupted}
 use Rattle.programs.specs.Source.{handled}
 use Rattle.programs.specs.Entering.{entering}
 use Rattle.programs.specs.Fresh.{freshPrograms, zeroPrograms}
+use Rattle.programs.specs.Rounds.{Rounds}
+use Rattle.programs.specs.Sound.{Sound}
 use Rattle.programs.specs.Exactly.{RoutedExactly, ActedExactly, SignalFits, SignalledExactly}
 use Rattle.programs.specs.Wakes.{WakesKept}
 use Rattle.programs.specs.EntryMarks.{EntryMarks}
@@ -49,3 +51,7 @@ pub record Lawful : Type 0 where
   pub no-switch : (rows : List ℕ) (s : Programs) (host : HostVector) → Facts rows → Formed s → NoSwitch rows s host
   pub elsewhere-still : (rows : List ℕ) (s : Programs) (x : ℕ) (event : SourceEvent) → Facts rows → Formed s → SignalFits rows (event .signal)
       → ElsewhereStill rows s x event
+  -- "looks at the group after it, and so on, until one is awake, round by number within the partition, ending at itself"
+  pub rounds : Rounds
+  -- "active group of its partition, active subject of its group, masked line (0-23) .. out of range": never by what a call does
+  pub sound : Sound
