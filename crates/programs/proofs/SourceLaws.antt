@@ -85,15 +85,15 @@ module _ (rows : List ℕ) (s : Programs) (x : ℕ) where
   fell-asleep : Formed s → own < 16 → FellAsleep own s (withGroup s own (asleep (groupAt s own)))
   unfolding asleep activeSubject
   fell-asleep f l = record {
-    awake = λ g. rw (group-stored s own (asleep (groupAt s own)) g f l) (go g (eqb g own));
+    awake = λ g. rw (group-stored s own (asleep (groupAt s own)) g f l) (go _ refl g (eqb g own));
     active-subjects = λ g. group-kept s own _ (λ (a : Group). a .active) refl g;
     active-groups = λ q. active-of-group s own _ q;
     masks = masks-of-group s own _;
   }
     where
-      go : (g : ℕ) (t : Bool) → cond t (asleep (groupAt s own)) (groupAt s g) .awake ≡ (not t && groupAt s g .awake)
-      go g true = refl
-      go g false = refl
+      go : (z : Group) → z .awake ≡ false → (g : ℕ) (t : Bool) → cond t z (groupAt s g) .awake ≡ (not t && groupAt s g .awake)
+      go z e g true = e
+      go z e g false = refl
 
   pub slept-exactly : Formed s → own < 16 → ((y : ℕ) → PendingOf rows s own y → ⊥) → FellAsleep own s (acted rows s x Sleep)
   unfolding acted slept
