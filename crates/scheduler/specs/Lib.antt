@@ -12,3 +12,5 @@ pub mod Entries
 pub mod Still
 pub mod Sound
 pub mod Lawful
+pub mod Starts
+pub mod Says
