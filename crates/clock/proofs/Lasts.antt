@@ -15,7 +15,7 @@ use Rattle.meaning.specs.Lookups.{frameCount}
 use Rattle.accepted.specs.Facts.{Facts}
 use Rattle.accepted.proofs.Numbers.{below-at}
 use Rattle.clock.specs.declared.time.Clock.{Clock}
-use Rattle.clock.specs.Time.{cpuAt, currentFrame, currentPartition, ticksLeft, waiting, countNow, countLast, freshClock, opened, mostCount, chosen, cpuInRange, countInRange, clockInRange}
+use Rattle.clock.specs.Time.{cpuAt, currentFrame, currentPartition, ticksLeft, countNow, countLast, freshClock, opened, mostCount, chosen, cpuInRange, countInRange, clockInRange}
 use Rattle.clock.specs.Ledger.{planned, one, occurs}
 use Rattle.clock.specs.PlanOf.{restOf}
 use Rattle.clock.specs.Lasting.{roomFor, lastingClock}
@@ -81,7 +81,7 @@ lasting rows k s =
 -- ---- what of a clock it is about
 
 chosen-lasts : (rows : List ℕ) (k : Clock) (m : ℕ) → m < countsOf rows .majors → Lasts rows k → Lasts rows (chosen k m)
-unfolding chosen cpuAt currentFrame ticksLeft countNow countLast restOf waiting currentPartition
+unfolding chosen cpuAt currentFrame ticksLeft countNow countLast restOf currentPartition
 chosen-lasts rows k m l s = record { major = s .major; next = l; minor = s .minor; left = s .left; last = s .last; room = s .room }
 
 opened-next : (rows : List ℕ) (k : Clock) → k .next < countsOf rows .majors → opened rows k .next < countsOf rows .majors

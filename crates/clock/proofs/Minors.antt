@@ -17,7 +17,7 @@ use Rattle.meaning.specs.Lookups.{frameAt, frameCount}
 use Rattle.accepted.specs.Facts.{Facts}
 use Rattle.clock.specs.declared.time.CpuClock.{CpuClock}
 use Rattle.clock.specs.declared.time.Clock.{Clock}
-use Rattle.clock.specs.Time.{cpuAt, currentFrame, currentPartition, ticksLeft, waiting, first, oneLess}
+use Rattle.clock.specs.Time.{cpuAt, currentFrame, currentPartition, ticksLeft, first, oneLess}
 use Rattle.clock.specs.Ledger.{laid, planned}
 use Rattle.clock.specs.PlanOf.{minorsFrom, minorsOf, restOf}
 use Rattle.clock.proofs.Choices.{cond-true, cond-false}
@@ -114,7 +114,7 @@ aheadOf rows m cpu c =
     (record { partition = frameAt rows m cpu (c .minor) .partition; length = c .left } ∷ drop (c .minor + 1) (minorsOf rows m cpu))
 
 pub rest-is : (rows : List ℕ) (k : Clock) (cpu : ℕ) → restOf rows k cpu ≡ aheadOf rows (k .major) cpu (cpuAt k cpu)
-unfolding restOf aheadOf waiting ticksLeft currentPartition currentFrame
+unfolding restOf aheadOf ticksLeft currentPartition currentFrame
 rest-is rows k cpu = refl
 
 module _ (rows : List ℕ) (m cpu : ℕ) (c : CpuClock) where

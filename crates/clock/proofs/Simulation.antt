@@ -11,7 +11,7 @@ use borrow.Author.Tests.{eq-eqb, ne-eqb}
 use Rattle.rows.specs.Lookups.{countsOf}
 use Rattle.accepted.specs.Facts.{Facts}
 use Rattle.clock.specs.declared.time.Clock.{Clock}
-use Rattle.clock.specs.Time.{cpuAt, currentFrame, currentPartition, ticksLeft, waiting, countNow, countLast, freshClock, opened, chosen}
+use Rattle.clock.specs.Time.{cpuAt, currentFrame, currentPartition, ticksLeft, countNow, countLast, freshClock, opened, chosen}
 use Rattle.clock.specs.Ledger.{laid, layout, one, choose, Ledger, blank, charged, addOne, closed, booked, counted, countedIn, countedLast}
 use Rattle.clock.specs.PlanOf.{minorsOf, planOf, restOf}
 use Rattle.clock.specs.Lasting.{Formed}
@@ -68,7 +68,7 @@ opened-keeps rows facts k l i =
 
 pub choose-keeps : (rows : List ℕ) (k : Clock) (l : Ledger) → Keeps rows k l
     → (m : ℕ) → m < countsOf rows .majors → Keeps rows (chosen k m) (booked (planOf rows) l (choose m))
-unfolding chosen booked cpuAt currentFrame ticksLeft countNow countLast restOf waiting currentPartition counted charged
+unfolding chosen booked cpuAt currentFrame ticksLeft countNow countLast restOf currentPartition counted charged
 choose-keeps rows k l i m lm =
     record {
       formed = formed-choose k m (i .formed);

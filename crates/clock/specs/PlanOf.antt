@@ -2,12 +2,13 @@
 use Prim.Native.Nat.{ℕ, zero, suc, _+_}
 use mathlib.Core.Bool.{cond}
 use mathlib.Core.List.{List, [], _∷_}
+use lib.Dec.{eqb}
 use lib.ListN.{drop}
 use Rattle.rows.specs.Lookups.{countsOf}
 use Rattle.meaning.specs.declared.answer.Frame.{Frame}
 use Rattle.meaning.specs.Lookups.{frameAt, frameCount}
 use Rattle.clock.specs.declared.time.Clock.{Clock}
-use Rattle.clock.specs.Time.{cpuAt, currentPartition, ticksLeft, waiting}
+use Rattle.clock.specs.Time.{cpuAt, currentPartition, ticksLeft}
 use Rattle.clock.specs.Ledger.{Plan}
 
 -- so many minor frames from a number on
@@ -22,9 +23,10 @@ minorsOf rows major cpu = minorsFrom rows major cpu 0 (frameCount rows major cpu
 unfoldable pub planOf : List ℕ → Plan
 planOf rows = record { cpus = countsOf rows .cpus; majors = countsOf rows .majors; frames = minorsOf rows }
 
--- what a CPU has ahead in this major frame: nothing when it waits, else the ticks left of its minor frame, then the later ones
+-- what a CPU has ahead in this major frame: nothing when no tick is left (it waits), else the ticks left of its minor frame, then the
+-- later ones
 unfoldable pub restOf : List ℕ → Clock → ℕ → List Frame
 restOf rows k cpu =
-    cond (waiting k cpu) []
+    cond (eqb (ticksLeft k cpu) 0) []
     (record { partition = currentPartition rows k cpu; length = ticksLeft k cpu }
     ∷ drop (cpuAt k cpu .minor + 1) (minorsOf rows (k .major) cpu))
