@@ -2,6 +2,7 @@ pub mod Laws
 pub mod CodeLaws
 pub mod PartLaws
 pub mod FreshLaws
+pub mod PendingLaws
 pub mod SignalLaws
 pub mod RoutedLaws
 pub mod SourceLaws

@@ -43,11 +43,11 @@ module _ {S : Type 0} {n : ℕ} {Fit : S → Type 0} {has : S → ℕ → Bool} 
 module _ (rows : List ℕ) (s : Programs) (x : ℕ) where
   pub woke-awake : (g : ℕ) → Formed s → groupOf rows x < 16 → groupAt (woke rows s x) g .awake ≡ (eqb g (groupOf rows x) || groupAt s g .awake)
   unfolding woke woken
-  woke-awake g f l = rw (group-stored s (groupOf rows x) _ g f l) (go (eqb g (groupOf rows x)))
+  woke-awake g f l = rw (group-stored s (groupOf rows x) _ g f l) (go _ refl (eqb g (groupOf rows x)))
     where
-      go : (t : Bool) → cond t (woken (groupAt s (groupOf rows x))) (groupAt s g) .awake ≡ (t || groupAt s g .awake)
-      go true = refl
-      go false = refl
+      go : (z : Group) → z .awake ≡ true → (t : Bool) → cond t z (groupAt s g) .awake ≡ (t || groupAt s g .awake)
+      go z e true = e
+      go z e false = refl
 
   pub woke-active : ActiveSubjectsKept s (woke rows s x)
   unfolding woke woken activeSubject

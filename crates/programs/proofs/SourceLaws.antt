@@ -1,18 +1,16 @@
 -- What each action changes, exactly, and then a source event: its action leaves the subjects, its target event is marked as `SignalLaws`
--- says. A sleep with something pending in its group is a yield; the search below the count of subjects finds it (`any-stop`, `any-at`).
+-- says. A sleep with something pending in its group is a yield (`PendingLaws`).
 use Prim.Native.Nat.{ℕ, _<_}
 use mathlib.Core.Bool.{Bool, true, false, not, cond, _&&_, _||_}
 use mathlib.Core.List.{List}
 use mathlib.Core.Path.{_≡_, refl, ap, _∙_}
 use native.Mathlib.Omega.{arith}
 use lib.Dec.{eqb}
-use borrow.Author.Tests.{eq-eqb, eqb-true}
-use Rattle.hexline.proofs.Cond.{by-cond, both}
+use Rattle.hexline.proofs.Cond.{by-cond}
 use Rattle.bits.specs.declared.one_word.Bits64.{Bits64}
 use Rattle.bits.specs.Sets.{has64}
 use Rattle.bits.proofs.Sets.{one-word}
 use Rattle.rows.specs.Lookups.{countsOf, partitionOf, groupOf}
-use Rattle.rules.proofs.Below.{any-stop}
 use Rattle.meaning.specs.declared.answer.IrqLine.{IrqLine}
 use Rattle.meaning.specs.declared.answer.Action.{Action}
 use Rattle.meaning.specs.declared.answer.Action.the-variants.{Nothing, Sleep, Yield, Handover, Unmask, Reboot, PowerOff, Panic}
@@ -21,19 +19,19 @@ use Rattle.meaning.specs.declared.answer.Signal.the-variants as signal
 use Rattle.meaning.specs.declared.answer.SourceEvent.{SourceEvent}
 use Rattle.meaning.specs.Lookups.{sourceEvent}
 use Rattle.accepted.specs.Facts.{Facts}
-use Rattle.accepted.proofs.Numbers.{any-at}
 use Rattle.programs.specs.declared.group.Group.{Group}
 use Rattle.programs.specs.declared.round.Found.{Found}
 use Rattle.programs.specs.declared.round.Found.the-variants.{Nobody, At}
 use Rattle.programs.specs.declared.subject.Subject.{Subject}
 use Rattle.programs.specs.declared.whole.Programs.{Programs}
-use Rattle.programs.specs.Records.{asleep, handedTo, hasPending, eventMarked}
+use Rattle.programs.specs.Records.{asleep, handedTo, eventMarked}
 use Rattle.programs.specs.Parts.{groupAt, subjectAt, activeSubject, withGroup}
 use Rattle.programs.specs.Formed.{Formed}
-use Rattle.programs.specs.Round.{nextOf, pendingIn, groupPending}
+use Rattle.programs.specs.Round.{nextOf, groupPending}
 use Rattle.programs.specs.Source.{movedTo, yielded, slept, handedOver, unmasked, acted, handled}
 use Rattle.programs.specs.Exactly.{SubjectsKept, GroupsKept, FellAsleep, Moved, HandedOver, Unmasked, PendingOf, ActedExactly, SignalFits, marksEvent, SignalledExactly}
 use Rattle.programs.proofs.PartLaws.{group-stored, group-same, group-other, group-kept, subject-of-group, active-of-group, masks-of-group, group-formed, active-same, active-other, group-of-active, subject-of-active, masks-of-active, active-formed, masks-same, group-of-masks, subject-of-masks, active-of-masks, masks-formed}
+use Rattle.programs.proofs.PendingLaws.{pending-found, pending-not}
 use Rattle.programs.proofs.SignalLaws.{group-inside, signalled-events, signalled-awake, signalled-part, signalled-active, signalled-groups, signalled-masks, signalled-formed}
 
 -- ---- "that one becomes active"
@@ -71,27 +69,6 @@ module _ (rows : List ℕ) (s : Programs) (partition : ℕ) where
     masks = masks-of-active s partition h;
   }
 
--- ---- "any subject of it has an event or vector pending"
-
-module _ (rows : List ℕ) (s : Programs) (group : ℕ) where
-  pub pending-found : (y : ℕ) → PendingOf rows s group y → groupPending rows s group ≡ true
-  unfolding groupPending pendingIn
-  pending-found y p = any-stop (countsOf rows .subjects) (pendingIn rows s group) y (p .0) (one (p .1 .0) (p .1 .1))
-    where
-      one : groupOf rows y ≡ group → hasPending (subjectAt s y) ≡ true → pendingIn rows s group y ≡ true
-      one e q = rw (eq-eqb (groupOf rows y) group e, q)
-
-  pub pending-not : ((y : ℕ) → PendingOf rows s group y → ⊥) → groupPending rows s group ≡ false
-  unfolding groupPending pendingIn
-  pending-not n = go (groupPending rows s group) refl
-    where
-      go : (t : Bool) → groupPending rows s group ≡ t → t ≡ false
-      go true e =
-          let i = any-at (countsOf rows .subjects) (pendingIn rows s group) e in
-          let b = both (eqb (groupOf rows (i .0)) group) (hasPending (subjectAt s (i .0))) (i .1 .1) in
-          absurd (n (i .0) (i .1 .0, (eqb-true (groupOf rows (i .0)) group (b .0), b .1)))
-      go false e = refl
-
 -- ---- each action
 
 module _ (rows : List ℕ) (s : Programs) (x : ℕ) where
@@ -108,15 +85,15 @@ module _ (rows : List ℕ) (s : Programs) (x : ℕ) where
   fell-asleep : Formed s → own < 16 → FellAsleep own s (withGroup s own (asleep (groupAt s own)))
   unfolding asleep activeSubject
   fell-asleep f l = record {
-    awake = λ g. rw (group-stored s own (asleep (groupAt s own)) g f l) (go g (eqb g own));
+    awake = λ g. rw (group-stored s own (asleep (groupAt s own)) g f l) (go _ refl g (eqb g own));
     active-subjects = λ g. group-kept s own _ (λ (a : Group). a .active) refl g;
     active-groups = λ q. active-of-group s own _ q;
     masks = masks-of-group s own _;
   }
     where
-      go : (g : ℕ) (t : Bool) → cond t (asleep (groupAt s own)) (groupAt s g) .awake ≡ (not t && groupAt s g .awake)
-      go g true = refl
-      go g false = refl
+      go : (z : Group) → z .awake ≡ false → (g : ℕ) (t : Bool) → cond t z (groupAt s g) .awake ≡ (not t && groupAt s g .awake)
+      go z e g true = e
+      go z e g false = refl
 
   pub slept-exactly : Formed s → own < 16 → ((y : ℕ) → PendingOf rows s own y → ⊥) → FellAsleep own s (acted rows s x Sleep)
   unfolding acted slept

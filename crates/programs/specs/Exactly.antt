@@ -3,6 +3,7 @@
 use Prim.Native.Nat.{ℕ, _≤_, _<_}
 use mathlib.Core.Bool.{Bool, true, false, not, _&&_, _||_}
 use mathlib.Core.List.{List}
+use mathlib.Core.Logic.{_⊎_}
 use mathlib.Core.Path.{_≡_}
 use lib.Dec.{eqb}
 use Rattle.bits.specs.Sets.{has64, has256}
@@ -19,8 +20,8 @@ use Rattle.meaning.specs.declared.answer.Signal.the-variants as signal
 use Rattle.meaning.specs.declared.answer.SourceEvent.{SourceEvent}
 use Rattle.meaning.specs.Lookups.{routeOf}
 use Rattle.programs.specs.declared.round.Found.the-variants.{Nobody, At}
+use Rattle.programs.specs.declared.subject.Subject.{Subject}
 use Rattle.programs.specs.declared.whole.Programs.{Programs}
-use Rattle.programs.specs.Records.{hasPending}
 use Rattle.programs.specs.Parts.{groupAt, subjectAt, activeGroup, activeSubject}
 use Rattle.programs.specs.Round.{nextOf}
 use Rattle.programs.specs.Signals.{interrupted}
@@ -101,9 +102,13 @@ pub record Unmasked (line : IrqLine) (s t : Programs) : Type 0 where
   pub groups : GroupsKept s t
   pub active-groups : ActiveGroupsKept s t
 
+-- "has an event or vector pending": some event, or some vector
+abbrev pub Pending : Subject → Type 0
+Pending x = ((e : ℕ) × (has64 (x .events) e ≡ true)) ⊎ ((u : ℕ) × (has256 (x .vectors) u ≡ true))
+
 -- "any subject of it has an event or vector pending": y is one
 abbrev pub PendingOf : List ℕ → Programs → ℕ → ℕ → Type 0
-PendingOf rows s group y = (y < countsOf rows .subjects) × ((groupOf rows y ≡ group) × (hasPending (subjectAt s y) ≡ true))
+PendingOf rows s group y = (y < countsOf rows .subjects) × ((groupOf rows y ≡ group) × Pending (subjectAt s y))
 
 -- the actions of subject x
 pub record ActedExactly (rows : List ℕ) (s : Programs) (x : ℕ) : Type 0 where

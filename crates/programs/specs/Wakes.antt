@@ -3,11 +3,13 @@
 use Prim.Native.Nat.{ℕ, _<_}
 use mathlib.Core.Bool.{Bool, true}
 use mathlib.Core.List.{List}
+use mathlib.Core.Logic.{_↔_}
 use mathlib.Core.Path.{_≡_}
 use Rattle.rows.specs.Lookups.{countsOf, groupOf}
 use Rattle.meaning.specs.declared.answer.HostVector.{HostVector}
 use Rattle.meaning.specs.declared.answer.SourceEvent.{SourceEvent}
 use Rattle.accepted.specs.Facts.{Facts}
+use Rattle.programs.specs.declared.subject.Subject.{Subject}
 use Rattle.programs.specs.declared.whole.Programs.{Programs}
 use Rattle.programs.specs.Records.{hasPending, openedTo}
 use Rattle.programs.specs.Parts.{groupAt, subjectAt, withSubject, withActive}
@@ -16,12 +18,14 @@ use Rattle.programs.specs.Signals.{interrupted}
 use Rattle.programs.specs.Source.{handled}
 use Rattle.programs.specs.Entering.{entering}
 use Rattle.programs.specs.Fresh.{freshPrograms}
-use Rattle.programs.specs.Exactly.{SignalFits}
+use Rattle.programs.specs.Exactly.{Pending, SignalFits}
 
 pub record NoLostWake (rows : List ℕ) (s : Programs) : Type 0 where
-  pub awake : (x : ℕ) → x < countsOf rows .subjects → hasPending (subjectAt s x) ≡ true → groupAt s (groupOf rows x) .awake ≡ true
+  pub awake : (x : ℕ) → x < countsOf rows .subjects → Pending (subjectAt s x) → groupAt s (groupOf rows x) .awake ≡ true
 
 pub record WakesKept : Type 0 where
+  -- the test of sleep
+  pub pending : (x : Subject) → (hasPending x ≡ true) ↔ Pending x
   -- "nothing pending"
   pub fresh : (rows : List ℕ) → NoLostWake rows (freshPrograms rows)
   -- "becomes pending for its subject .., wakes its group"
