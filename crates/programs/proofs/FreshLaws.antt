@@ -4,22 +4,23 @@
 use Prim.Native.Nat.{ℕ, zero, suc, _+_, _≤_, _<_}
 use mathlib.Core.Bool.{Bool, true, false, cond, true≢false}
 use mathlib.Core.List.{List}
-use mathlib.Core.Path.{_≡_, refl, sym, ap, _∙_}
+use mathlib.Core.Logic.{inl, inr}
+use mathlib.Core.Path.{_≡_, refl, sym, ap, subst, _∙_}
 use native.Mathlib.Omega.{arith}
 use native.Mathlib.Decide.{ℕ-discrete}
 use lib.Dec.{eqb}
 use lib.ListN.{getD, replicate}
 use borrow.Author.Tests.{eq-eqb}
-use Rattle.bits.specs.Sets.{has64, none64, none256}
+use Rattle.bits.specs.Sets.{has64}
 use Rattle.bits.proofs.Sets.{one-word, four-words}
-use Rattle.bits.proofs.Callers.{none-empty}
 use Rattle.rows.specs.Lookups.{countsOf, partitionOf, groupOf}
 use Rattle.accepted.specs.Facts.{Facts}
 use Rattle.programs.specs.declared.group.Group.{Group}
 use Rattle.programs.specs.declared.subject.Subject.{Subject}
-use Rattle.programs.specs.Records.{freshSubject, hasPending}
+use Rattle.programs.specs.Records.{freshSubject}
 use Rattle.programs.specs.Parts.{noGroup, groupAt, subjectAt, activeGroup, activeSubject}
 use Rattle.programs.specs.Fresh.{lowestFrom, listFrom, lowestGroup, lowestSubject, freshActives, freshGroup, freshGroups, freshPrograms}
+use Rattle.programs.specs.Exactly.{Pending}
 use Rattle.programs.specs.Sound.{Lowest, Fresh}
 
 -- ---- the lowest
@@ -80,9 +81,10 @@ all-same (suc n) (suc i) a = all-same n i a
 
 -- ---- the fresh programs
 
-pub fresh-pending : hasPending freshSubject ≡ false
-unfolding hasPending freshSubject
-fresh-pending = rw (none-empty one-word none64 (λ k l. one-word .none-has k), none-empty four-words none256 (λ k l. four-words .none-has k))
+pub fresh-pending : Pending freshSubject → ⊥
+unfolding freshSubject
+fresh-pending (inl e) = true≢false (sym (e .1) ∙ one-word .none-has (e .0))
+fresh-pending (inr u) = true≢false (sym (u .1) ∙ four-words .none-has (u .0))
 
 pub fresh-subject : (rows : List ℕ) (x : ℕ) → subjectAt (freshPrograms rows) x ≡ freshSubject
 unfolding subjectAt freshPrograms
@@ -132,7 +134,7 @@ module _ (rows : List ℕ) (f : Facts rows) where
         awake = λ g l. rw (group-is g (omega (arith, f .counts .groups .1)));
         group = lowest-group;
         subject = lowest-subject;
-        pending = λ x. rw (fresh-subject rows x) fresh-pending;
+        pending = λ x e. fresh-pending (subst Pending (fresh-subject rows x) e);
         closed = closed;
         unmasked = unmasked;
       }

@@ -1,16 +1,14 @@
 -- No wake is lost. A step marks something only for a subject whose group it wakes; and a group falls asleep only where no subject of it
 -- has anything pending. So whoever has something pending afterwards had it before, in a group still awake, or was just woken.
-use Prim.Native.Nat.{ℕ, zero, suc, _<_}
+use Prim.Native.Nat.{ℕ, _<_}
 use mathlib.Core.Bool.{Bool, true, false, _||_, true≢false}
 use mathlib.Core.List.{List}
-use mathlib.Core.Logic.{inl, inr}
 use mathlib.Core.Path.{_≡_, refl, ap, sym, subst, _∙_}
 use native.Mathlib.Decide.{ℕ-discrete}
 use lib.Dec.{eqb}
 use borrow.Author.Tests.{eq-eqb}
 use Rattle.rows.specs.Lookups.{countsOf, groupOf}
 use Rattle.hexline.proofs.Cond.{by-cond}
-use Rattle.bits.proofs.Sets.{one-word, four-words}
 use Rattle.meaning.specs.declared.answer.Action.{Action}
 use Rattle.meaning.specs.declared.answer.Action.the-variants.{Nothing, Sleep, Yield, Handover, Unmask, Reboot, PowerOff, Panic}
 use Rattle.meaning.specs.declared.answer.Route.{Route}
@@ -22,7 +20,7 @@ use Rattle.accepted.specs.Facts.{Facts}
 use Rattle.programs.specs.declared.group.Group.{Group}
 use Rattle.programs.specs.declared.subject.Subject.{Subject}
 use Rattle.programs.specs.declared.whole.Programs.{Programs}
-use Rattle.programs.specs.Records.{asleep, handedTo, openedTo, freshSubject}
+use Rattle.programs.specs.Records.{asleep, handedTo, openedTo}
 use Rattle.programs.specs.Parts.{groupAt, subjectAt, withGroup, withSubject, withActive}
 use Rattle.programs.specs.Formed.{Formed}
 use Rattle.programs.specs.Round.{groupPending}
@@ -36,7 +34,7 @@ use Rattle.programs.proofs.PartLaws.{group-other, group-kept, subject-o
 use Rattle.programs.proofs.PendingLaws.{pending-tested, tested-pending, pending-same, pending-found}
 use Rattle.programs.proofs.SignalLaws.{woke-subjects, pending-awake, group-inside}
 use Rattle.programs.proofs.RoutedLaws.{RouteFits, route-fits, masked-groups, masked-subjects}
-use Rattle.programs.proofs.FreshLaws.{fresh-subject}
+use Rattle.programs.proofs.FreshLaws.{fresh-subject, fresh-pending}
 use Rattle.programs.proofs.SourceLaws.{moved-subjects, moved-groups, acted-formed}
 
 module _ (rows : List ℕ) (s : Programs) (n : NoLostWake rows s) where
@@ -117,13 +115,8 @@ routed-wakes rows s n (route.To x v line) h f k =
     kept-wakes rows _ (pending-wakes rows s n x _ h f (k .0)) _ (masked-subjects _ line) (masked-groups _ line)
 
 -- nothing is pending at the start
-fresh-none : Pending freshSubject → ⊥
-unfolding freshSubject
-fresh-none (inl e) = true≢false (sym (e .1) ∙ one-word .none-has (e .0))
-fresh-none (inr u) = true≢false (sym (u .1) ∙ four-words .none-has (u .0))
-
 fresh-wakes : (rows : List ℕ) → NoLostWake rows (freshPrograms rows)
-fresh-wakes rows = record { awake = λ x l e. absurd (fresh-none (subst Pending (fresh-subject rows x) e)) }
+fresh-wakes rows = record { awake = λ x l e. absurd (fresh-pending (subst Pending (fresh-subject rows x) e)) }
 
 pub wakes-kept : WakesKept
 unfolding interrupted handled

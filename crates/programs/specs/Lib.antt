@@ -8,8 +8,8 @@ pub mod Entering
 pub mod Fresh
 pub mod Range
 pub mod Rounds
-pub mod Sound
 pub mod Exactly
+pub mod Sound
 pub mod Wakes
 pub mod EntryMarks
 pub mod Still

@@ -14,13 +14,13 @@ use Rattle.accepted.specs.Facts.{Facts}
 use Rattle.programs.specs.declared.round.Found.the-variants.{At}
 use Rattle.programs.specs.declared.subject.Subject.{Subject}
 use Rattle.programs.specs.declared.whole.Programs.{Programs}
-use Rattle.programs.specs.Records.{hasPending}
 use Rattle.programs.specs.Parts.{groupAt, subjectAt, activeGroup, activeSubject, withSubject, withActive}
 use Rattle.programs.specs.Round.{chosenGroup}
 use Rattle.programs.specs.Signals.{interrupted}
 use Rattle.programs.specs.Source.{handled}
 use Rattle.programs.specs.Entering.{entering}
 use Rattle.programs.specs.Fresh.{lowestFrom, freshPrograms}
+use Rattle.programs.specs.Exactly.{Pending}
 use Rattle.programs.specs.Range.{programsInRange}
 
 -- a number below a count whose home is a place
@@ -59,7 +59,7 @@ pub record Fresh (rows : List ℕ) (s : Programs) : Type 0 where
       → Lowest (λ g. eqb (partitionOf rows g) partition) (countsOf rows .groups) (activeGroup s partition)
   pub subject : (group : ℕ) → group < countsOf rows .groups
       → Lowest (λ x. eqb (groupOf rows x) group) (countsOf rows .subjects) (activeSubject s group)
-  pub pending : (subject : ℕ) → hasPending (subjectAt s subject) ≡ false
+  pub pending : (subject : ℕ) → Pending (subjectAt s subject) → ⊥
   pub closed : (subject : ℕ) → subjectAt s subject .«open» ≡ false
   pub unmasked : (line : ℕ) → has64 (s .masks) line ≡ false
 
