@@ -1,0 +1,14 @@
+pub mod States
+pub mod Range
+pub mod Entry
+pub mod Calls
+pub mod Steps
+pub mod Start
+pub mod Lasting
+pub mod Told
+pub mod Refusals
+pub mod PlanTime
+pub mod Entries
+pub mod Still
+pub mod Sound
+pub mod Lawful
