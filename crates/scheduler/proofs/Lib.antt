@@ -1,0 +1,2 @@
+pub mod CallLeaves
+pub mod TickTaken
