@@ -1,2 +1,6 @@
 pub mod CallLeaves
 pub mod TickTaken
+pub mod StepCases
+pub mod RefusalLaws
+pub mod PlanTimeLaws
+pub mod EntryLaws
