@@ -30,7 +30,7 @@ use Rattle.scheduler.specs.declared.event.Stopping.{Stopping}
 use Rattle.scheduler.specs.declared.event.Stopping.the-variants.{Goes, Stops}
 use Rattle.scheduler.specs.States.{enteredOn, withClock, withPrograms, withEntered, flagStored, aloneOn, halted}
 use Rattle.scheduler.specs.Entry.{enters, admitted, entryOf}
-use Rattle.scheduler.specs.Calls.{plain, newFrame, tickedAs, tickCall, stoppingOf, stop, eventThen, eventHandled, hypercallEvent, hypercall, advances, trapSource, trapCall, interruptCall, chooseCall, reportCall, masksCall, called}
+use Rattle.scheduler.specs.Calls.{plain, newFrame, tickedAs, stoppingOf, stop, eventThen, eventHandled, hypercall, trapCall, interruptCall}
 use Rattle.scheduler.specs.Told.{isRefused, isStopped, tellsNewFrame}
 
 -- of a call from a state: the clock afterwards, and whether a frame was opened

@@ -1,18 +1,17 @@
 -- The laws of who is entered. An entry is by cases of the clock and of the group that is found; a step stops where its answer says so, since
 -- all else leaves the mark alone; and once the mark is set only reports and masks are taken, which change nothing.
 use Prim.Native.Nat.{ℕ, _<_}
-use mathlib.Core.Bool.{Bool, true, false, true≢false, false≢true, _&&_}
+use mathlib.Core.Bool.{true, false, true≢false, false≢true}
 use mathlib.Core.List.{List}
-use mathlib.Core.Path.{_≡_, refl, ap, sym, subst, _∙_}
+use mathlib.Core.Path.{_≡_, refl, ap, sym, _∙_}
 use lib.ListN.{length}
 use lib.Seq.{getD-set-same}
-use Rattle.rows.specs.Lookups.{countsOf, partitionOf}
 use Rattle.clock.specs.Time.{waiting, ticksLeft, currentPartition}
 use Rattle.clock.proofs.Choices.{cond-true, cond-false}
 use Rattle.programs.specs.declared.entering.Entering.{Entering}
 use Rattle.programs.specs.declared.round.Found.{Found}
 use Rattle.programs.specs.declared.round.Found.the-variants.{Nobody, At}
-use Rattle.programs.specs.Parts.{groupAt, activeGroup, activeSubject, withActive}
+use Rattle.programs.specs.Parts.{activeSubject, withActive}
 use Rattle.programs.specs.Round.{chosenGroup}
 use Rattle.programs.specs.Entering.{entering}
 use Rattle.programs.proofs.RoundLaws.{rounds}
@@ -31,7 +30,7 @@ use Rattle.scheduler.specs.Calls.{refused, reportCall, masksCall, called
 use Rattle.scheduler.specs.Steps.{minds, afterStop, stepOf}
 use Rattle.scheduler.specs.Told.{isStopped}
 use Rattle.scheduler.specs.Entries.{EntryFinds, Entries}
-use Rattle.scheduler.proofs.StepCases.{Fine, fine-leaves, step-cases}
+use Rattle.scheduler.proofs.StepCases.{fine-leaves, step-cases}
 
 -- ---- an entry
 

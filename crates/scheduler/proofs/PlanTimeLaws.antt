@@ -1,7 +1,7 @@
 -- The laws of plan time in a step: where a step is not refused it leaves what its call leaves (`StepCases.antt`), and a refusal changes
 -- nothing and tells nothing.
 use Prim.Native.Nat.{ℕ}
-use mathlib.Core.Bool.{Bool, true, false}
+use mathlib.Core.Bool.{false}
 use mathlib.Core.List.{List}
 use mathlib.Core.Path.{_≡_, refl, ap, _∙_}
 use Rattle.clock.specs.declared.time.Clock.{Clock}

@@ -1,11 +1,8 @@
 -- A step by cases: it is refused, or none of 80 to 85 applies and it is the call itself, which then is not refused. So where an answer is
 -- no refusal, the step is the call and leaves what the call leaves.
-use Prim.Native.Nat.{ℕ}
-use mathlib.Core.Bool.{Bool, true, false, cond, true≢false}
-use mathlib.Core.List.{List}
-use mathlib.Core.Path.{_≡_, refl, sym, _∙_}
+use mathlib.Core.Bool.{true, false, true≢false}
+use mathlib.Core.Path.{_≡_, refl}
 use Rattle.hexline.proofs.Cond.{by-cond, both}
-use Rattle.clock.specs.declared.time.Clock.{Clock}
 use Rattle.clock.specs.Time.{clockInRange}
 use Rattle.clock.proofs.Choices.{cond-true, cond-false}
 use Rattle.policy.specs.declared.value.Policy.{Policy}

@@ -2,7 +2,7 @@
 -- that its partition is one of the policy and has a count in range; and where it opens a frame its CPU does not wait, since the first
 -- minor frame of the next major has a tick. Hence what every call leaves that is taken.
 use Prim.Native.Nat.{ℕ, _<_, _≤_}
-use mathlib.Core.Bool.{Bool, true, false, cond, true≢false}
+use mathlib.Core.Bool.{true, false, true≢false}
 use mathlib.Core.List.{List}
 use mathlib.Core.Path.{_≡_, refl, ap, sym, _∙_}
 use native.Mathlib.Omega.{arith}
@@ -11,15 +11,14 @@ use borrow.Author.Tests.{ne-eqb, ltb-true, leb-true, leb-false, le-ltb}
 use Rattle.hexline.proofs.Cond.{by-cond, both}
 use Rattle.rows.specs.Lookups.{countsOf}
 use Rattle.rules.specs.Rules.{allBelow}
-use Rattle.meaning.specs.Lookups.{frameAt, frameCount}
+use Rattle.meaning.specs.Lookups.{frameCount}
 use Rattle.accepted.specs.Facts.{Facts}
 use Rattle.accepted.proofs.Numbers.{below-at}
 use Rattle.clock.specs.declared.time.CpuClock.{CpuClock}
 use Rattle.clock.specs.declared.time.Clock.{Clock}
-use Rattle.clock.specs.declared.time.Tick.the-variants as tick
 use Rattle.clock.specs.declared.time.Ticked.{Ticked}
 use Rattle.clock.specs.Time.{cpuAt, currentFrame, currentPartition, ticksLeft, waiting, countNow, mostCount, first, settled, allFinished, tickOf, cpuInRange, countInRange, clockInRange}
-use Rattle.clock.specs.History.{waits, opens, refuses}
+use Rattle.clock.specs.History.{opens, refuses}
 use Rattle.clock.proofs.Leaves as clock
 use Rattle.calls.specs.declared.call.Call.{Call}
 use Rattle.calls.specs.declared.call.Call.the-variants as call
