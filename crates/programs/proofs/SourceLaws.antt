@@ -95,13 +95,13 @@ module _ (rows : List ℕ) (s : Programs) (x : ℕ) where
       go z e g true = e
       go z e g false = refl
 
-  pub slept-exactly : Formed s → own < 16 → ((y : ℕ) → PendingOf rows s own y → ⊥) → FellAsleep own s (acted rows s x Sleep)
-  unfolding acted slept
-  slept-exactly f l n = rw (pending-not rows s own n) (fell-asleep f l)
-
   pub slept-pending : (y : ℕ) → PendingOf rows s own y → acted rows s x Sleep ≡ acted rows s x Yield
   unfolding acted slept
   slept-pending y p = rw (pending-found rows s own y p)
+
+  pub slept-exactly : Formed s → own < 16 → ((y : ℕ) → PendingOf rows s own y → ⊥) → FellAsleep own s (acted rows s x Sleep)
+  unfolding acted slept
+  slept-exactly f l n = rw (pending-not rows s own n) (fell-asleep f l)
 
   pub handed-exactly : (target : ℕ) → Formed s → own < 16 → HandedOver own target s (acted rows s x (Handover target))
   unfolding acted handedOver handedTo activeSubject
