@@ -139,7 +139,10 @@ module _ (rows : List ℕ) (m cpu : ℕ) (c : CpuClock) (some : c .left ≡ 0 �
   busy-next = ap laid (busy rows m cpu c some) ∙ laid-some _ (c .left) _ some
 
   -- with what is ahead of c′ in its place
-  then : (c′ : CpuClock) → laid (record { partition = frameAt rows m cpu (c .minor) .partition; length = c .left - 1 } ∷ drop (c .minor + 1) (minorsOf rows m cpu)) ≡ laid (aheadOf rows m cpu c′) → Less rows m cpu c c′
+  then : (c′ : CpuClock)
+      → laid (record { partition = frameAt rows m cpu (c .minor) .partition; length = c .left - 1 } ∷ drop (c .minor + 1) (minorsOf rows m cpu))
+      ≡ laid (aheadOf rows m cpu c′)
+      → Less rows m cpu c c′
   unfolding Less
   then c′ e = busy-next ∙ ap (λ (r : List ℕ). frameAt rows m cpu (c .minor) .partition ∷ r) e
 
