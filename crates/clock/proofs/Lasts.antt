@@ -67,7 +67,10 @@ count-in k q a b = rw (le-leb _ _ a, le-leb _ _ b)
 pub lasting : (rows : List ℕ) (k : Clock) → Lasts rows k → lastingClock rows k ≡ true
 unfolding lastingClock roomFor clockInRange
 lasting rows k s =
-    simp (lt-ltb _ _ (s .major), lt-ltb _ _ (s .next), below-all (countsOf rows .cpus) (cpuInRange rows k) each-cpu, below-all (countsOf rows .partitions) (countInRange k) each-count, below-all (countsOf rows .partitions) (roomFor rows k) each-room)
+    let cpus = below-all (countsOf rows .cpus) (cpuInRange rows k) each-cpu in
+    let counts = below-all (countsOf rows .partitions) (countInRange k) each-count in
+    let rooms = below-all (countsOf rows .partitions) (roomFor rows k) each-room in
+    simp (lt-ltb _ _ (s .major), lt-ltb _ _ (s .next), cpus, counts, rooms)
   where
     each-cpu : (c : ℕ) → c < countsOf rows .cpus → cpuInRange rows k c ≡ true
     each-cpu c l = cpu-in rows k c (s .minor c l) (s .left c l)

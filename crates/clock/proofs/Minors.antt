@@ -8,18 +8,21 @@ use native.Mathlib.Numerals.{add-one}
 use native.Mathlib.Omega.{arith}
 use lib.Dec.{eqb}
 use lib.ListN.{length, drop, getD, drop-of-length-le}
-use lib.Seq.{drop-cons}
+use lib.Seq.{drop-cons, ext-getD}
 use borrow.Author.Tests.{eq-eqb, ne-eqb}
+use Rattle.records.specs.declared.kind.Record.{Record}
+use Rattle.rows.specs.Lines.{tableOf}
 use Rattle.rows.specs.Lookups.{countsOf, cpuOf}
 use Rattle.meaning.specs.declared.answer.Frame.{Frame}
 use Rattle.meaning.specs.Answers.{noFrame}
 use Rattle.meaning.specs.Lookups.{frameAt, frameCount}
+use Rattle.meaning.specs.Means.{Means, minorsIn}
 use Rattle.accepted.specs.Facts.{Facts}
 use Rattle.clock.specs.declared.time.CpuClock.{CpuClock}
 use Rattle.clock.specs.declared.time.Clock.{Clock}
 use Rattle.clock.specs.Time.{cpuAt, currentFrame, currentPartition, ticksLeft, first, oneLess}
 use Rattle.clock.specs.Ledger.{laid, planned}
-use Rattle.clock.specs.PlanOf.{minorsFrom, minorsOf, restOf}
+use Rattle.clock.specs.PlanOf.{minorsFrom, minorsOf, planOf, restOf}
 use Rattle.clock.proofs.Choices.{cond-true, cond-false}
 use Rattle.clock.proofs.Lists.{laid-some, laid-none}
 
@@ -64,6 +67,14 @@ module _ (rows : List ℕ) (m c : ℕ) where
 
   pub later-none : (i : ℕ) → frameCount rows m c ≤ i → drop i (minorsOf rows m c) ≡ []
   later-none i l = let e = minors-length in drop-of-length-le (minorsOf rows m c) {i = i} (omega arith)
+
+-- they are the 05 lines of the text
+pub plan-is-lines : (e : List Record) → Means e → (m c : ℕ) → planOf (tableOf e) .frames m c ≡ minorsIn m c e
+unfolding planOf
+plan-is-lines e means m c =
+    let t = means .frames m c in
+    let n = minors-length (tableOf e) m c in
+    ext-getD noFrame (minorsOf (tableOf e) m c) (minorsIn m c e) (n ∙ t .count) (λ i l. minors-at (tableOf e) m c i (omega arith) ∙ t .each i)
 
 -- ---- what they give a partition
 
@@ -139,7 +150,10 @@ module _ (rows : List ℕ) (m cpu : ℕ) (c : CpuClock) (some : c .left ≡ 0 �
   busy-next = ap laid (busy rows m cpu c some) ∙ laid-some _ (c .left) _ some
 
   -- with what is ahead of c′ in its place
-  then : (c′ : CpuClock) → laid (record { partition = frameAt rows m cpu (c .minor) .partition; length = c .left - 1 } ∷ drop (c .minor + 1) (minorsOf rows m cpu)) ≡ laid (aheadOf rows m cpu c′) → Less rows m cpu c c′
+  then : (c′ : CpuClock)
+      → laid (record { partition = frameAt rows m cpu (c .minor) .partition; length = c .left - 1 } ∷ drop (c .minor + 1) (minorsOf rows m cpu))
+      ≡ laid (aheadOf rows m cpu c′)
+      → Less rows m cpu c c′
   unfolding Less
   then c′ e = busy-next ∙ ap (λ (r : List ℕ). frameAt rows m cpu (c .minor) .partition ∷ r) e
 

@@ -30,7 +30,8 @@ pub counted-more : (plan : Plan) (l : Ledger) (cpu x : ℕ) (r : List ℕ) → c
     → (q : ℕ) → counted plan (addOne l cpu) q ≡ counted plan l q + one x q
 unfolding counted charged addOne
 counted-more plan l cpu x r lc here q =
-    let a = sum-change (λ c. occurs q (take (cond (eqb c cpu) (l .done c + 1) (l .done c)) (layout plan (l .major) c))) (λ c. occurs q (take (l .done c) (layout plan (l .major) c))) cpu (plan .cpus)
+    let a = sum-change (λ c. occurs q (take (cond (eqb c cpu) (l .done c + 1) (l .done c)) (layout plan (l .major) c)))
+    (λ c. occurs q (take (l .done c) (layout plan (l .major) c))) cpu (plan .cpus)
     (λ c ne. ap (λ (n : ℕ). occurs q (take n (layout plan (l .major) c))) (cond-false (eqb c cpu) _ _ (ne-eqb c cpu ne))) lc in
     let b = ap (λ (n : ℕ). occurs q (take n (layout plan (l .major) cpu))) (cond-true (eqb cpu cpu) (l .done cpu + 1) (l .done cpu) (eq-eqb cpu cpu refl)) in
     let m = here .more q in

@@ -5,6 +5,7 @@ use Rattle.clock.proofs.Lasts.{lasting-range, lasting-fresh, lasting-ch
 use Rattle.clock.proofs.LastingTick.{lasting-tick}
 use Rattle.clock.proofs.Simulation.{fresh-keeps, choose-keeps}
 use Rattle.clock.proofs.Ticks.{tick-keeps}
+use Rattle.clock.proofs.Minors.{plan-is-lines}
 use Rattle.clock.proofs.Believe.{believe}
 use Rattle.clock.proofs.Condition.{condition-three}
 
@@ -16,6 +17,7 @@ laws =
       choose = choose-keeps;
       condition-three = condition-three;
       believable = believe;
+      plan-is-lines = plan-is-lines;
       lasting-range = lasting-range;
       lasting-fresh = lasting-fresh;
       lasting-tick = lasting-tick;

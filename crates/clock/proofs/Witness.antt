@@ -24,7 +24,7 @@ use Rattle.clock.specs.History.{stepped, clockFrom, clockAfter, opening,
 
 -- partitions 0 and 2 on CPU 0, 1 on CPU 1. Major 0: partition 0 for 2 ticks and then 2 for 1, beside 1 for 3. Major 1: 2 for 1 and then 0
 -- for 1, beside 1 for 2
-pub lines : List Record
+unfoldable pub lines : List Record
 lines =
     End 16
     ∷ Frame (record { major = 1; cpu = 1; partition = 1; length = 2 })
@@ -45,8 +45,7 @@ lines =
     ∷ Header (record { cpus = 2; subjects = 3; groups = 3; partitions = 3; majors = 2 })
     ∷ []
 
-pub rows : List ℕ
-unfolding lines
+unfoldable pub rows : List ℕ
 rows = tableOf lines
 
 -- CPU 5 and major 9 are not there; the fourth tick of CPU 0 finds it full

@@ -6,8 +6,11 @@ use mathlib.Core.Bool.{true, false}
 use mathlib.Core.List.{List, [], _∷_}
 use mathlib.Core.Path.{_≡_}
 use lib.ListN.{length}
+use Rattle.records.specs.declared.kind.Record.{Record}
+use Rattle.rows.specs.Lines.{tableOf}
 use Rattle.rows.specs.Lookups.{countsOf}
 use Rattle.meaning.specs.declared.answer.Frame.{Frame}
+use Rattle.meaning.specs.Means.{Means, minorsIn}
 use Rattle.accepted.specs.Facts.{Facts}
 use Rattle.clock.specs.declared.time.Clock.{Clock}
 use Rattle.clock.specs.declared.time.Ticked.{Ticked}
@@ -96,6 +99,8 @@ pub record Lawful : Type 0 where
   -- so after every list of calls
   pub condition-three : (rows : List ℕ) → Facts rows → (cs : List Call) → ConditionThree rows cs
   pub believable : (plan : Plan) → Believable plan
+  -- the ledger's plan is the text's: the minor frames of a major and CPU are its 05 lines, in the text's order
+  pub plan-is-lines : (e : List Record) → Means e → (m c : ℕ) → planOf (tableOf e) .frames m c ≡ minorsIn m c e
   -- a lasting clock is in range; the clock at the start is lasting, and a tick and a choice leave it so
   pub lasting-range : (rows : List ℕ) (k : Clock) → lastingClock rows k ≡ true → clockInRange rows k ≡ true
   pub lasting-fresh : (rows : List ℕ) → Facts rows → lastingClock rows (freshClock rows) ≡ true
