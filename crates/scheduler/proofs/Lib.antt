@@ -1,2 +1,4 @@
 pub mod Ways
 pub mod StepFormed
+pub mod Elsewhere
+pub mod Making
