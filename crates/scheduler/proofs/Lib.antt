@@ -2,3 +2,4 @@ pub mod Ways
 pub mod StepFormed
 pub mod Elsewhere
 pub mod Making
+pub mod EntryDone
