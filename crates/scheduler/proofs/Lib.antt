@@ -3,3 +3,4 @@ pub mod StepFormed
 pub mod Elsewhere
 pub mod Making
 pub mod EntryDone
+pub mod LastingTest
