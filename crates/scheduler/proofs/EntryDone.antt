@@ -50,14 +50,17 @@ entered-here s cpu subject l = getD-set-same (s .entered) cpu subject nobody l
 -- ---- the programs: a group becomes active, and its active subject is entered
 
 module _ (rows : List ℕ) (p : Programs) (partition group x : ℕ) where
-  abbrev into : Programs
+  abbrev pub into : Programs
   into = entering rows (withActive p partition group) x .programs
 
-  active-into : programs.Formed p → partition < 8 → activeGroup into partition ≡ group
+  pub groups-into : (q : ℕ) → activeGroup into q ≡ activeGroup (withActive p partition group) q
   unfolding entering
-  active-into f l = active-of-subject (withActive p partition group) x _ partition ∙ active-same p partition group f l
+  groups-into q = active-of-subject (withActive p partition group) x _ q
 
-  subjects-into : (g : ℕ) → activeSubject into g ≡ activeSubject p g
+  active-into : programs.Formed p → partition < 8 → activeGroup into partition ≡ group
+  active-into f l = groups-into partition ∙ active-same p partition group f l
+
+  pub subjects-into : (g : ℕ) → activeSubject into g ≡ activeSubject p g
   unfolding entering activeSubject
   subjects-into g = ap (λ (a : Group). a .active) (group-of-subject (withActive p partition group) x _ g ∙ group-of-active p partition group g)
 

@@ -28,6 +28,7 @@ use Rattle.scheduler.specs.Lasting.{lasting, Formed}
 use Rattle.scheduler.proofs.Elsewhere.{Stays, Elsewhere}
 use Rattle.scheduler.proofs.Making.{Ready, current}
 use Rattle.scheduler.proofs.EntryDone.{Fits}
+use Rattle.scheduler.proofs.Places.{SamePlace}
 
 pub record Lasts (rows : List ℕ) (s : State) : Type 0 where
   pub clock : clock.lastingClock rows (s .clock) ≡ true
@@ -106,14 +107,6 @@ module _ (rows : List ℕ) (facts : Facts rows) (s : State) (r : Ready rows s) (
       ap (cpuOfSubject rows) e ∙ ap (λ (k : ℕ). cpuOf rows (partitionOf rows k)) (x .here) ∙ group-home
 
 -- ---- it stays in range
-
--- a CPU stands where it stood
-pub record SamePlace (rows : List ℕ) (c : ℕ) (k k′ : Clock) : Type 0 where
-  pub runs : waiting k′ c ≡ waiting k c
-  pub partition : currentPartition rows k′ c ≡ currentPartition rows k c
-
-pub same-clock : (rows : List ℕ) (c : ℕ) (k k′ : Clock) → k′ ≡ k → SamePlace rows c k k′
-same-clock rows c k k′ e = record { runs = ap (λ (z : Clock). waiting z c) e; partition = ap (λ (z : Clock). currentPartition rows z c) e }
 
 module _ (rows : List ℕ) (s t : State) (c : ℕ) (same : SamePlace rows c (s .clock) (t .clock)) where
   pub fits-kept : Stays s t c

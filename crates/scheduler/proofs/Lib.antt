@@ -3,4 +3,7 @@ pub mod StepFormed
 pub mod Elsewhere
 pub mod Making
 pub mod EntryDone
+pub mod Places
 pub mod LastingTest
+pub mod CallDone
+pub mod StillLaws

@@ -66,6 +66,10 @@ nobody-at zero c = refl
 nobody-at (suc n) zero = refl
 nobody-at (suc n) (suc c) = nobody-at n c
 
+pub nobody-else : (s : State) (cpu c : ℕ) → (c ≡ cpu → ⊥) → enteredOn (aloneOn s cpu) c ≡ nobody
+unfolding aloneOn enteredOn
+nobody-else s cpu c d = getD-set-other (replicate 4 nobody) cpu c (enteredOn s cpu) nobody d ∙ nobody-at 4 c
+
 module _ (rows : List ℕ) (cpu : ℕ) (s : State) (r : Ready rows s) where
   pub nothing-done : Done rows cpu s s
   nothing-done = record { ready = r; elsewhere = record { programs = untouched rows cpu (s .programs); entered = λ c d. inl refl }; wakes = λ n. n }
@@ -103,10 +107,7 @@ module _ (rows : List ℕ) (cpu : ℕ) (s : State) (r : Ready rows s) where
   alone-done =
       record {
         ready = record { formed = alone-formed s (r .formed) cpu; clock = r .clock; programs = r .programs };
-        elsewhere = record {
-          programs = untouched rows cpu (s .programs);
-          entered = λ c d. inr (getD-set-other (replicate 4 nobody) cpu c (enteredOn s cpu) nobody d ∙ nobody-at 4 c);
-        };
+        elsewhere = record { programs = untouched rows cpu (s .programs); entered = λ c d. inr (nobody-else s cpu c d) };
         wakes = λ n. n;
       }
 
