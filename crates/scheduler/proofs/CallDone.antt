@@ -26,11 +26,12 @@ use Rattle.scheduler.specs.Entry.{entryOf}
 use Rattle.scheduler.specs.Steps.{served}
 use Rattle.scheduler.specs.Still.{ElsewhereStill}
 use Rattle.scheduler.specs.Lasting.{Formed}
+use Rattle.scheduler.proofs.CallLeaves.{nobody-there, flag-beside}
 use Rattle.scheduler.proofs.Ways.{Made, by-ways}
 use Rattle.scheduler.proofs.Elsewhere.{Stays, Elsewhere}
-use Rattle.scheduler.proofs.Making.{Ready, Done, done-then, nobody-at, nobody-else, alone-done, halted-done, stored-done, ticked-done, handled-done, interrupted-done}
+use Rattle.scheduler.proofs.Making.{Ready, Done, done-then, nobody-else, alone-done, halted-done, stored-done, ticked-done, handled-done, interrupted-done}
 use Rattle.scheduler.proofs.EntryDone.{Fits, Entered, entry-done}
-use Rattle.scheduler.proofs.Places.{SamePlace, same-clock, place-chosen, place-elsewhere, place-on, stored-clock}
+use Rattle.scheduler.proofs.Places.{SamePlace, same-clock, place-chosen, place-elsewhere, place-on}
 use Rattle.scheduler.proofs.LastingTest.{Lasts, ready-of, entered-home, fits-kept, fits-elsewhere}
 
 pub record Went (rows : List ℕ) (h : Heard) (s t : State) : Type 0 where
@@ -93,7 +94,7 @@ module _ (rows : List ℕ) (facts : Facts rows) (h : Heard) (s : State) (f : For
     unfolding halted enteredOn
     halted-went flag =
         let d = flag-done flag in
-        done-went _ (done-then rows cpu s _ _ d (halted-done rows cpu _ (d .ready))) (λ c b. inl (nobody-at 4 c))
+        done-went _ (done-then rows cpu s _ _ d (halted-done rows cpu _ (d .ready))) (λ c b. inl (nobody-there 4 c))
 
     -- an entry, where every other CPU stands where it stood or has nobody entered
     module _ (m : State) (d : Done rows cpu s m) (notes : Notes) where
@@ -136,7 +137,7 @@ call-went rows s h facts f a =
           clock-went rows facts h s f a _ (lasting-tick rows facts (s .clock) (f .clock) (a .clock) cpu l .lasting) (place-on rows (s .clock) cpu (inside cpu l) on);
       moved = λ cpu flag notes made l shut.
           entry-went rows facts h s f a cpu made l _ (tick-done cpu flag l) notes
-          (λ c d. inl (subst (SamePlace rows c (s .clock)) (sym (stored-clock (withClock s (tickOf rows (s .clock) cpu .clock)) cpu flag)) (place-elsewhere rows (s .clock) cpu shut c d)));
+          (λ c d. inl (subst (SamePlace rows c (s .clock)) (sym (flag-beside (withClock s (tickOf rows (s .clock) cpu .clock)) cpu flag .clock)) (place-elsewhere rows (s .clock) cpu shut c d)));
       opened = λ cpu flag notes made l opens.
           let d = tick-done cpu flag l in
           entry-went rows facts h s f a cpu made l _ (done-then rows cpu s _ _ d (alone-done rows cpu _ (d .ready))) notes (λ c ne. inr (nobody-else _ cpu c ne));
@@ -145,12 +146,12 @@ call-went rows s h facts f a =
           let d = flag-done rows facts h s f a cpu made l flag in
           entry-went rows facts h s f a cpu made l _
           (done-then rows cpu s _ _ d (handled-done rows facts cpu l _ (d .ready) (enteredOn s cpu) event (home cpu l somebody) of)) notes
-          (λ c ne. inl (same-clock rows c (s .clock) _ (stored-clock s cpu flag)));
+          (λ c ne. inl (same-clock rows c (s .clock) _ (flag-beside s cpu flag .clock)));
       interrupts = λ cpu vector flag notes made l.
           let d = flag-done rows facts h s f a cpu made l flag in
           entry-went rows facts h s f a cpu made l _
           (done-then rows cpu s _ _ d (interrupted-done rows facts cpu l _ (d .ready) (record { 0 = vector }))) notes
-          (λ c ne. inl (same-clock rows c (s .clock) _ (stored-clock s cpu flag)));
+          (λ c ne. inl (same-clock rows c (s .clock) _ (flag-beside s cpu flag .clock)));
     })
   where
     inside : (cpu : ℕ) → cpu < countsOf rows .cpus → cpu < length (s .clock .cpus)

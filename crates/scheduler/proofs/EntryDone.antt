@@ -7,7 +7,6 @@ use mathlib.Core.Logic.{_⊎_, inl, inr}
 use mathlib.Core.Path.{_≡_, refl, sym, ap, _∙_}
 use native.Mathlib.Omega.{arith}
 use lib.ListN.{length}
-use lib.Seq.{getD-set-same}
 use Rattle.hexline.proofs.Cond.{by-cond}
 use Rattle.rows.specs.Lookups.{countsOf, cpuOf, partitionOf, groupOf}
 use Rattle.accepted.specs.Facts.{Facts, cpuOfSubject}
@@ -31,6 +30,7 @@ use Rattle.scheduler.specs.declared.state.Stepped.{Stepped}
 use Rattle.scheduler.specs.States.{enteredOn, withPrograms, withEntered}
 use Rattle.scheduler.specs.Range.{activeOn}
 use Rattle.scheduler.specs.Entry.{enters, admitted, entryOf}
+use Rattle.scheduler.proofs.EntryLaws.{entered-there}
 use Rattle.scheduler.proofs.Elsewhere.{subject-untouched, active-untouched}
 use Rattle.scheduler.proofs.Making.{Ready, Done, done-then, programs-done, entered-done, current}
 
@@ -42,10 +42,6 @@ pub record Entered (rows : List ℕ) (cpu : ℕ) (s : State) (t : Stepped) : Typ
   pub done : Done rows cpu s (t .state)
   pub clock : t .state .clock ≡ s .clock
   pub fits : Fits rows (t .state) cpu
-
-pub entered-here : (s : State) (cpu subject : ℕ) → cpu < length (s .entered) → enteredOn (withEntered s cpu subject) cpu ≡ subject
-unfolding withEntered enteredOn
-entered-here s cpu subject l = getD-set-same (s .entered) cpu subject nobody l
 
 -- ---- the programs: a group becomes active, and its active subject is entered
 
@@ -78,7 +74,7 @@ module _ (rows : List ℕ) (facts : Facts rows) (cpu : ℕ) (l : cpu < countsOf 
   clock-stays subject = refl
 
   none-entered : (a : Answer) → Entered rows cpu s (record { state = withEntered s cpu nobody; answer = a })
-  none-entered a = record { done = entered-done rows cpu s r nobody; clock = clock-stays nobody; fits = inl (entered-here s cpu nobody inside) }
+  none-entered a = record { done = entered-done rows cpu s r nobody; clock = clock-stays nobody; fits = inl (entered-there s cpu nobody inside) }
 
   module _ (group : ℕ) (chosen : chosenGroup rows (s .programs) here ≡ At group) where
     abbrev x : ℕ
@@ -133,7 +129,7 @@ module _ (rows : List ℕ) (facts : Facts rows) (cpu : ℕ) (l : cpu < countsOf 
         is-active =
             let small = facts .counts .partitions .1 in
             let q = current rows facts cpu l s r .0 in
-            entered-here (withPrograms s (into rows (s .programs) here group x)) cpu x inside
+            entered-there (withPrograms s (into rows (s .programs) here group x)) cpu x inside
             ∙ sym (subjects-into rows (s .programs) here group x group)
             ∙ ap (activeSubject (into rows (s .programs) here group x)) (sym (active-into rows (s .programs) here group x (r .formed .programs) (omega arith)))
 

@@ -1,3 +1,9 @@
+pub mod CallLeaves
+pub mod TickTaken
+pub mod StepCases
+pub mod RefusalLaws
+pub mod PlanTimeLaws
+pub mod EntryLaws
 pub mod Ways
 pub mod StepFormed
 pub mod Elsewhere
@@ -7,3 +13,4 @@ pub mod Places
 pub mod LastingTest
 pub mod CallDone
 pub mod StillLaws
+pub mod SoundLaws

@@ -1,12 +1,12 @@
 -- What each maker of a state does on a CPU: the clock stays lasting and the programs in range (`Ready`), the other CPUs are left alone
 -- (`Elsewhere`), and no wake is lost. By what is proved of the clock and of the programs; `Done` may be put together, one after the other.
-use Prim.Native.Nat.{ℕ, zero, suc, _<_}
+use Prim.Native.Nat.{ℕ, _<_}
 use mathlib.Core.Bool.{Bool, true}
 use mathlib.Core.List.{List}
 use mathlib.Core.Logic.{_⊎_, inl, inr}
 use mathlib.Core.Path.{_≡_, refl, _∙_}
 use lib.Dec.{eqb}
-use lib.ListN.{getD, replicate}
+use lib.ListN.{replicate}
 use lib.Seq.{getD-set-other}
 use borrow.Author.Tests.{eqb-false}
 use Rattle.hexline.proofs.Cond.{by-cond}
@@ -35,6 +35,7 @@ use Rattle.calls.specs.Answers.{nobody}
 use Rattle.scheduler.specs.declared.state.State.{State}
 use Rattle.scheduler.specs.States.{enteredOn, withClock, withPrograms, withEntered, flagStored, aloneOn, halted}
 use Rattle.scheduler.specs.Lasting.{Formed}
+use Rattle.scheduler.proofs.CallLeaves.{nobody-there}
 use Rattle.scheduler.proofs.Ways.{EventOf}
 use Rattle.scheduler.proofs.StepFormed.{clock-formed, programs-formed, entered-formed, alone-formed, halted-formed}
 use Rattle.scheduler.proofs.Elsewhere.{Untouched, Elsewhere, untouched, elsewhere-then, subject-untouched, handled-untouched, interrupted-untouched}
@@ -61,14 +62,9 @@ done-then rows cpu s m t a b =
 
 -- ---- parts stored
 
-pub nobody-at : (n c : ℕ) → getD (replicate n nobody) c nobody ≡ nobody
-nobody-at zero c = refl
-nobody-at (suc n) zero = refl
-nobody-at (suc n) (suc c) = nobody-at n c
-
 pub nobody-else : (s : State) (cpu c : ℕ) → (c ≡ cpu → ⊥) → enteredOn (aloneOn s cpu) c ≡ nobody
 unfolding aloneOn enteredOn
-nobody-else s cpu c d = getD-set-other (replicate 4 nobody) cpu c (enteredOn s cpu) nobody d ∙ nobody-at 4 c
+nobody-else s cpu c d = getD-set-other (replicate 4 nobody) cpu c (enteredOn s cpu) nobody d ∙ nobody-there 4 c
 
 module _ (rows : List ℕ) (cpu : ℕ) (s : State) (r : Ready rows s) where
   pub nothing-done : Done rows cpu s s
@@ -116,7 +112,7 @@ module _ (rows : List ℕ) (cpu : ℕ) (s : State) (r : Ready rows s) where
   halted-done =
       record {
         ready = record { formed = halted-formed s (r .formed); clock = r .clock; programs = r .programs };
-        elsewhere = record { programs = untouched rows cpu (s .programs); entered = λ c d. inr (nobody-at 4 c) };
+        elsewhere = record { programs = untouched rows cpu (s .programs); entered = λ c d. inr (nobody-there 4 c) };
         wakes = λ n. n;
       }
 

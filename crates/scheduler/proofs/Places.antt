@@ -81,7 +81,3 @@ module _ (rows : List ℕ) (k : Clock) (cpu : ℕ) where
       go : Dec (c ≡ cpu) → SamePlace rows c k then
       go (yes e) = rw e (place-here l on)
       go (no d) = place-elsewhere (goes-shut (tickOf rows k cpu .what) on .0) c d
-
-pub stored-clock : (s : State) (cpu flag : ℕ) → flagStored s cpu flag .clock ≡ s .clock
-unfolding flagStored withPrograms
-stored-clock s cpu flag = by-cond (λ (t : State). t .clock ≡ s .clock) (eqb (enteredOn s cpu) nobody) _ _ (λ e. refl) (λ e. refl)

@@ -40,9 +40,10 @@ use Rattle.scheduler.specs.Calls.{plain, interruptCall, called}
 use Rattle.scheduler.specs.Steps.{noSuch, badFlag, minds, afterStop, nobodyThere, answered, served}
 use Rattle.scheduler.specs.Still.{NoSwitch, Still}
 use Rattle.scheduler.specs.Lasting.{Formed}
+use Rattle.scheduler.proofs.CallLeaves.{flag-beside}
+use Rattle.scheduler.proofs.EntryLaws.{entered-there}
 use Rattle.scheduler.proofs.StepFormed.{stored-formed}
-use Rattle.scheduler.proofs.EntryDone.{entered-here, into, groups-into, subjects-into}
-use Rattle.scheduler.proofs.Places.{stored-clock}
+use Rattle.scheduler.proofs.EntryDone.{into, groups-into, subjects-into}
 use Rattle.scheduler.proofs.LastingTest.{lasts-of}
 use Rattle.scheduler.proofs.CallDone.{call-went}
 
@@ -106,7 +107,7 @@ module _ (rows : List ℕ) (cpu : ℕ) (m : State) (l : cpu < length (m .entered
       record {
         active-subjects = subjects-into rows p here group x;
         active-group = λ q e. groups-into rows p here group x q ∙ active-stays group c q e;
-        entered = λ g w e. let z : At group ≡ At g = sym c ∙ e in let same : group ≡ g = cc in entered-here (withPrograms m (into rows p here group x)) cpu x l ∙ ap (activeSubject p) same;
+        entered = λ g w e. let z : At group ≡ At g = sym c ∙ e in let same : group ≡ g = cc in entered-there (withPrograms m (into rows p here group x)) cpu x l ∙ ap (activeSubject p) same;
       }
     where
       x : ℕ
@@ -156,7 +157,7 @@ module _ (rows : List ℕ) (facts : Facts rows) (s : State) (f : Formed s) (cpu 
   unfolding interruptCall withPrograms activeOn
   switches =
       let k = keeps rows cpu (withPrograms stored marked) inside plain in
-      let clock = stored-clock s cpu flag in
+      let clock = flag-beside s cpu flag .clock in
       record {
         active-group = λ q awake. k .active-group q (chosen q awake) ∙ active q;
         active-subject = λ g. k .active-subjects g ∙ subject g;

@@ -32,8 +32,8 @@ pub record EntryFinds (rows : List ℕ) (s : State) (cpu : ℕ) (notes : Notes) 
   -- "becomes active", and its active subject is entered
   pub enters : (group : ℕ) → waiting (s .clock) cpu ≡ false → chosenGroup rows (s .programs) (currentPartition rows (s .clock) cpu) ≡ At group
       → let into = entering rows (withActive (s .programs) (currentPartition rows (s .clock) cpu) group) (activeSubject (s .programs) group) in
-        (entryOf rows s cpu notes .answer ≡ Enter (activeSubject (s .programs) group) (ticksLeft (s .clock) cpu) (injectedOf (into .vector)) (into .reset) notes)
-        × ((enteredOn (entryOf rows s cpu notes .state) cpu ≡ activeSubject (s .programs) group) × (entryOf rows s cpu notes .state .programs ≡ into .programs))
+      (entryOf rows s cpu notes .answer ≡ Enter (activeSubject (s .programs) group) (ticksLeft (s .clock) cpu) (injectedOf (into .vector)) (into .reset) notes)
+      × ((enteredOn (entryOf rows s cpu notes .state) cpu ≡ activeSubject (s .programs) group) × (entryOf rows s cpu notes .state .programs ≡ into .programs))
   -- a group of the current partition is awake: somebody is entered
   pub runs : (group : ℕ) → waiting (s .clock) cpu ≡ false
       → activeGroup (s .programs) (currentPartition rows (s .clock) cpu) < countsOf rows .groups

@@ -74,9 +74,25 @@ fn minds(call: Call) -> bool
     ensures { λ r. ⌜ r ≡ minds call ⌝ }
 {
     match call {
+        Call::Tick { cpu: _, flag: _ } => true,
+        Call::Hypercall {
+            cpu: _,
+            event: _,
+            flag: _,
+        } => true,
+        Call::Trap {
+            cpu: _,
+            trap: _,
+            flag: _,
+        } => true,
+        Call::Interrupt {
+            cpu: _,
+            vector: _,
+            flag: _,
+        } => true,
+        Call::Choose { major: _ } => true,
         Call::Report { partition: _ } => false,
         Call::Masks => false,
-        _ => true,
     }
 }
 
@@ -94,6 +110,7 @@ impl State {
         ensures { λ r. ⌜ r ≡ nobodyThere self call ⌝ }
     {
         match call {
+            Call::Tick { cpu: _, flag: _ } => false,
             Call::Hypercall {
                 cpu,
                 event: _,
@@ -104,7 +121,14 @@ impl State {
                 trap: _,
                 flag: _,
             } => self.entered_on(cpu) == NOBODY,
-            _ => false,
+            Call::Interrupt {
+                cpu: _,
+                vector: _,
+                flag: _,
+            } => false,
+            Call::Choose { major: _ } => false,
+            Call::Report { partition: _ } => false,
+            Call::Masks => false,
         }
     }
 
