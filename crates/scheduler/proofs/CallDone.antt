@@ -2,7 +2,7 @@
 -- its makers (`Making`) and its entry (`EntryDone`), which enters in range; whoever is entered on another CPU was in range before, and
 -- what that rests on is left alone, unless a frame opens: then nobody is entered there.
 use Prim.Native.Nat.{ℕ, _<_}
-use mathlib.Core.Bool.{true, false}
+use mathlib.Core.Bool.{true}
 use mathlib.Core.List.{List}
 use mathlib.Core.Logic.{_⊎_, inl, inr}
 use mathlib.Core.Path.{_≡_, refl, sym, subst, _∙_}

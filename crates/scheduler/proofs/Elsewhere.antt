@@ -1,12 +1,12 @@
 -- What is done on one CPU leaves the other CPUs' programs alone: `Untouched` of the programs, by each store in a part of that CPU, by a source
 -- event of a subject there, and by an interrupt; `Elsewhere` of the state, with who is entered. What comes after another may be put together.
-use Prim.Native.Nat.{ℕ, _<_}
+use Prim.Native.Nat.{ℕ}
 use mathlib.Core.Bool.{true}
 use mathlib.Core.List.{List}
 use mathlib.Core.Logic.{_⊎_, inl, inr}
-use mathlib.Core.Path.{_≡_, refl, sym, ap, _∙_}
+use mathlib.Core.Path.{_≡_, refl, ap, _∙_}
 use Rattle.bits.specs.Sets.{has64, has256}
-use Rattle.rows.specs.Lookups.{countsOf, cpuOf, partitionOf, groupOf}
+use Rattle.rows.specs.Lookups.{cpuOf, partitionOf}
 use Rattle.meaning.specs.declared.answer.HostVector.{HostVector}
 use Rattle.meaning.specs.declared.answer.SourceEvent.{SourceEvent}
 use Rattle.accepted.specs.Facts.{Facts, cpuOfSubject}

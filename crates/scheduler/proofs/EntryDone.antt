@@ -19,7 +19,7 @@ use Rattle.programs.specs.Formed as programs
 use Rattle.programs.specs.Parts.{groupAt, activeGroup, activeSubject, withActive}
 use Rattle.programs.specs.Round.{chosenGroup}
 use Rattle.programs.specs.Entering.{entering}
-use Rattle.programs.specs.Sound.{GroupOf, SubjectOf}
+use Rattle.programs.specs.Sound.{SubjectOf}
 use Rattle.programs.proofs.PartLaws.{active-same, active-of-subject, group-of-active, group-of-subject}
 use Rattle.programs.proofs.Conditions.{laws}
 use Rattle.calls.specs.declared.answer.Answer.{Answer}

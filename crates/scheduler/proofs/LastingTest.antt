@@ -1,19 +1,18 @@
 -- `lasting` by its parts, and who is then entered: the active subject of a CPU's current partition, which is a subject of that CPU.
 -- Whoever is entered stays in range where the CPU's place in the plan, that partition's active group and its active subject stay.
 use Prim.Native.Nat.{ℕ, _<_}
-use mathlib.Core.Bool.{Bool, true, false, not, _&&_, _||_, false≢true}
+use mathlib.Core.Bool.{Bool, true, false, not, _&&_, _||_}
 use mathlib.Core.List.{List}
 use mathlib.Core.Logic.{_⊎_, inl, inr}
 use mathlib.Core.Path.{_≡_, refl, sym, ap, _∙_}
 use lib.Dec.{eqb}
-use borrow.Author.Tests.{eq-eqb, eqb-true, eqb-false, not-true}
+use borrow.Author.Tests.{eq-eqb, eqb-true, not-true}
 use Rattle.hexline.proofs.Cond.{both}
 use Rattle.rows.specs.Lookups.{countsOf, cpuOf, partitionOf}
 use Rattle.rules.specs.Rules.{allBelow}
 use Rattle.accepted.specs.Facts.{Facts, cpuOfSubject}
 use Rattle.accepted.proofs.Numbers.{below-at}
-use Rattle.clock.specs.declared.time.Clock.{Clock}
-use Rattle.clock.specs.Time.{currentPartition, waiting, clockInRange}
+use Rattle.clock.specs.Time.{currentPartition, waiting}
 use Rattle.clock.specs.Lasting as clock
 use Rattle.clock.proofs.Choices.{below-all}
 use Rattle.programs.specs.Parts.{activeGroup, activeSubject}
@@ -23,7 +22,7 @@ use Rattle.programs.proofs.Conditions.{laws}
 use Rattle.calls.specs.Answers.{nobody}
 use Rattle.scheduler.specs.declared.state.State.{State}
 use Rattle.scheduler.specs.States.{enteredOn}
-use Rattle.scheduler.specs.Range.{activeOn, enteredInRange, inRange}
+use Rattle.scheduler.specs.Range.{activeOn, enteredInRange}
 use Rattle.scheduler.specs.Lasting.{lasting, Formed}
 use Rattle.scheduler.proofs.Elsewhere.{Stays, Elsewhere}
 use Rattle.scheduler.proofs.Making.{Ready, current}

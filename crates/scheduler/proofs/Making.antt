@@ -1,9 +1,9 @@
 -- What each maker of a state does on a CPU: the clock stays lasting and the programs in range (`Ready`), the other CPUs are left alone
 -- (`Elsewhere`), and no wake is lost. By what is proved of the clock and of the programs; `Done` may be put together, one after the other.
 use Prim.Native.Nat.{ℕ, _<_}
-use mathlib.Core.Bool.{Bool, true}
+use mathlib.Core.Bool.{true}
 use mathlib.Core.List.{List}
-use mathlib.Core.Logic.{_⊎_, inl, inr}
+use mathlib.Core.Logic.{inl, inr}
 use mathlib.Core.Path.{_≡_, refl, _∙_}
 use lib.Dec.{eqb}
 use lib.ListN.{replicate}
@@ -24,8 +24,6 @@ use Rattle.clock.proofs.LastingTick.{lasting-tick}
 use Rattle.clock.proofs.Leaves.{leaves}
 use Rattle.programs.specs.declared.whole.Programs.{Programs}
 use Rattle.programs.specs.Formed as programs
-use Rattle.programs.specs.Parts.{subjectAt, withSubject}
-use Rattle.programs.specs.Records.{openedTo}
 use Rattle.programs.specs.Signals.{signalled, interrupted}
 use Rattle.programs.specs.Source.{acted, handled}
 use Rattle.programs.specs.Sound.{InRange}

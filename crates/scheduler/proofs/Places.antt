@@ -1,7 +1,7 @@
 -- Where the CPUs stand in the plan after a tick or a choice: another CPU where it stood, unless a frame opens; the CPU itself too, where the
 -- tick was mid-frame. That is what the range of an entered subject asks of the clock.
 use Prim.Native.Nat.{ℕ, _-_, _<_}
-use mathlib.Core.Bool.{Bool, true, false, false≢true}
+use mathlib.Core.Bool.{true, false, false≢true}
 use mathlib.Core.List.{List}
 use mathlib.Core.Path.{_≡_, refl, sym, ap, _∙_}
 use native.Mathlib.Omega.{arith}
@@ -9,7 +9,6 @@ use native.Mathlib.Decide.{ℕ-discrete}
 use lib.Dec.{eqb}
 use lib.ListN.{length}
 use borrow.Author.Tests.{ne-eqb}
-use Rattle.hexline.proofs.Cond.{by-cond}
 use Rattle.meaning.specs.Lookups.{frameAt}
 use Rattle.clock.specs.declared.time.CpuClock.{CpuClock}
 use Rattle.clock.specs.declared.time.Clock.{Clock}
@@ -18,9 +17,6 @@ use Rattle.clock.specs.declared.time.Tick.the-variants.{Wait, GoOn, Moved, Open
 use Rattle.clock.specs.Time.{cpuAt, currentFrame, currentPartition, ticksLeft, waiting, oneLess, tickOf, chosen}
 use Rattle.clock.specs.History.{waits, goesOn, opens}
 use Rattle.clock.proofs.Leaves.{leaves}
-use Rattle.calls.specs.Answers.{nobody}
-use Rattle.scheduler.specs.declared.state.State.{State}
-use Rattle.scheduler.specs.States.{enteredOn, withPrograms, flagStored}
 
 -- a CPU stands where it stood
 pub record SamePlace (rows : List ℕ) (c : ℕ) (k k′ : Clock) : Type 0 where

@@ -1,6 +1,6 @@
 -- Soundness. A fresh state is lasting by its clock and its programs, with nobody entered; what every call does keeps it so (`CallDone`); and a
 -- lasting state is in range. So after whatever calls from the start the state is usable, and 80 is answered only where it is not.
-use Prim.Native.Nat.{ℕ, _<_}
+use Prim.Native.Nat.{ℕ}
 use mathlib.Core.Bool.{true, _&&_, true≢false}
 use mathlib.Core.List.{List, [], _∷_}
 use mathlib.Core.Logic.{inl}

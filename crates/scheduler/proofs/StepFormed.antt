@@ -1,13 +1,12 @@
 -- A step keeps the arrays of a state as long as their types say: each maker of a state stores at one place of an array, or makes a new one
 -- of that length.
 use Prim.Native.Nat.{ℕ}
-use mathlib.Core.Bool.{Bool, _&&_}
+use mathlib.Core.Bool.{_&&_}
 use mathlib.Core.List.{List}
-use mathlib.Core.Path.{_≡_, refl, _∙_}
+use mathlib.Core.Path.{refl, _∙_}
 use lib.Dec.{eqb}
 use lib.ListN.{replicate, length-set}
 use Rattle.hexline.proofs.Cond.{by-cond}
-use Rattle.meaning.specs.declared.answer.SourceEvent.{SourceEvent}
 use Rattle.policy.specs.declared.value.Policy.{Policy}
 use Rattle.policy.specs.Writes.{known}
 use Rattle.clock.specs.declared.time.Clock.{Clock}

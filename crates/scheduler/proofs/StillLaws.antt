@@ -23,9 +23,8 @@ use Rattle.programs.specs.Parts.{groupAt, activeGroup, activeSubject, withActiv
 use Rattle.programs.specs.Still as programs
 use Rattle.programs.specs.Round.{chosenGroup}
 use Rattle.programs.specs.Signals.{interrupted}
-use Rattle.programs.specs.Entering.{entering}
 use Rattle.programs.specs.Exactly.{ActiveSubjectsKept, GroupsKept, ActiveGroupsKept}
-use Rattle.programs.proofs.PartLaws.{read-after, active-of-subject, group-of-active, group-of-subject}
+use Rattle.programs.proofs.PartLaws.{read-after, active-of-subject, group-of-subject}
 use Rattle.programs.proofs.Conditions.{laws}
 use Rattle.calls.specs.declared.answer.Notes.{Notes}
 use Rattle.calls.specs.declared.call.Call.the-variants as call
