@@ -125,7 +125,7 @@ ticked-leaves rows s cpu flag k tick.Refused t w b = absurd (true≢false t)
 
 -- ---- a stop, a source event
 
-nobody-there : (n cpu : ℕ) → getD (replicate n nobody) cpu nobody ≡ nobody
+pub nobody-there : (n cpu : ℕ) → getD (replicate n nobody) cpu nobody ≡ nobody
 nobody-there zero cpu = refl
 nobody-there (suc n) zero = refl
 nobody-there (suc n) (suc cpu) = nobody-there n cpu

@@ -6,3 +6,14 @@ pub mod PlanTimeLaws
 pub mod EntryLaws
 pub mod SaysLaws
 pub mod StartLaws
+pub mod Ways
+pub mod StepFormed
+pub mod Elsewhere
+pub mod Making
+pub mod EntryDone
+pub mod Places
+pub mod LastingTest
+pub mod CallDone
+pub mod StillLaws
+pub mod SoundLaws
+pub mod Conditions
