@@ -21,8 +21,8 @@ use Rattle.calls.specs.declared.call.Call.{Call}
 use Rattle.calls.specs.declared.call.Call.the-variants.{Tick, Hypercall, Trap, Interrupt, Choose, Report, Masks}
 use Rattle.calls.specs.declared.call.Heard.{Heard}
 use Rattle.calls.specs.declared.call.Heard.the-variants as heard
-use Rattle.calls.specs.declared.hear.CallLine.{CallLine}
-use Rattle.calls.specs.declared.hear.CallLine.the-variants.{Ended, Unended}
+use Rattle.calls.specs.declared.hearing.CallLine.{CallLine}
+use Rattle.calls.specs.declared.hearing.CallLine.the-variants.{Ended, Unended}
 use Rattle.calls.specs.Calls.{callBytes, heardIn, callIn, callLine, heardFrom, heardOf, FitsCall}
 use Rattle.calls.specs.Lawful.{Begins}
 use Rattle.calls.proofs.LineBytes.{AllBytes, all-bytes, front-bytes, line-bytes}

@@ -11,7 +11,7 @@ use Rattle.hexline.specs.Writes.{pairOf, pairsOf, lineText}
 use Rattle.calls.specs.declared.call.Call.{Call}
 use Rattle.calls.specs.declared.call.Call.the-variants as call
 use Rattle.calls.specs.declared.call.Heard.the-variants as heard
-use Rattle.calls.specs.declared.hear.CallLine.the-variants.{Ended, Unended}
+use Rattle.calls.specs.declared.hearing.CallLine.the-variants.{Ended, Unended}
 use Rattle.calls.specs.declared.answer.Kick.the-variants.{Nobody, Cpu}
 use Rattle.calls.specs.declared.answer.Injected.the-variants.{Nothing, Vector}
 use Rattle.calls.specs.declared.answer.Notes.{Notes}

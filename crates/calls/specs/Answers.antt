@@ -53,9 +53,10 @@ codeOf refusal.NobodyEntered = 133
 abbrev pub unused : List ℕ
 unused = nobody ∷ 0 ∷ 0 ∷ 0 ∷ 0 ∷ nobody ∷ []
 
--- "Codes: 00 enter, 01 idle, 02 wait, 03 go on (subject entered or FF), 04 stopped (subject; reason in place of ticks), 05 choose done.
--- Idle uses ticks, bits and kick; go on uses subject and ticks; wait, 05 and refusals use none. A stop has bits 00 and no kick. 06
--- report: partition, count this frame (two), last finished frame (two), 00. 07: masked lines (three, line 0 lowest bit), 000000."
+-- "Codes: 00 enter, 01 idle, 02 wait, 03 go on (subject entered or FF), 04 stopped (subject; reason in place of ticks: ..), 05 choose
+-- done. Idle uses ticks, bits and kick; go on uses subject and ticks; wait, 05 and refusals use none." "A stop has bits 00 and no
+-- kick." "06 report: partition, count this frame (two), last finished frame (two), 00. 07: masked lines (three, line 0 lowest bit),
+-- 000000."
 unfoldable pub bytesOf : Answer → List ℕ
 bytesOf (Enter subject left injected reset notes) =
     0 ∷ subject ∷ left / 256 ∷ left % 256 ∷ vectorOf injected ∷ bitsOf (notes .advance) reset (notes .«new_frame») ∷ kickOf (notes .kick) ∷ []

@@ -13,8 +13,8 @@ use Rattle.calls.specs.declared.call.Call.{Call}
 use Rattle.calls.specs.declared.call.Call.the-variants.{Tick, Hypercall, Trap, Interrupt, Choose, Report, Masks}
 use Rattle.calls.specs.declared.call.Heard.{Heard}
 use Rattle.calls.specs.declared.call.Heard.the-variants as heard
-use Rattle.calls.specs.declared.hear.CallLine.{CallLine}
-use Rattle.calls.specs.declared.hear.CallLine.the-variants.{Ended, Unended}
+use Rattle.calls.specs.declared.hearing.CallLine.{CallLine}
+use Rattle.calls.specs.declared.hearing.CallLine.the-variants.{Ended, Unended}
 
 -- the bytes of a call's line, the kind first: 10 to 16 in hexadecimal
 unfoldable pub callBytes : Call → List ℕ

@@ -16,7 +16,7 @@ use Rattle.hexline.specs.declared.read.Line.the-variants.{Whole}
 use Rattle.calls.specs.declared.call.Call.{Call}
 use Rattle.calls.specs.declared.call.Heard.{Heard}
 use Rattle.calls.specs.declared.call.Heard.the-variants as heard
-use Rattle.calls.specs.declared.hear.CallLine.the-variants.{Ended, Unended}
+use Rattle.calls.specs.declared.hearing.CallLine.the-variants.{Ended, Unended}
 use Rattle.calls.specs.declared.answer.Refusal.{Refusal}
 use Rattle.calls.specs.declared.answer.Answer.{Answer}
 use Rattle.calls.specs.declared.answer.Answer.the-variants.{Masks, Refused}

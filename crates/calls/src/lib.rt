@@ -4,7 +4,7 @@ ghost use Rattle.calls.specs.Lawful.{Lawful};
 
 pub mod answer; // the answers, with the paper's numbers for reasons and refusals
 pub mod call; // the seven calls
-pub mod hear; // a call, heard from the part of the text that begins there; `hear` has its module's name, and is used by its path
+pub mod hearing; // a call, heard from the part of the text that begins there
 pub mod write; // an answer's bytes, and its line
 
 pub use answer::Answer;
@@ -15,8 +15,9 @@ pub use answer::Reason;
 pub use answer::Refusal;
 pub use call::Call;
 pub use call::Heard;
-pub use hear::CallLine;
-pub use hear::call_line;
+pub use hearing::CallLine;
+pub use hearing::call_line;
+pub use hearing::hear;
 pub use write::answer_bytes;
 pub use write::put_answer;
 

@@ -45,6 +45,7 @@ fn kick_of(kick: Kick) -> u8
     }
 }
 
+// Bits 1 advance, 2 reset, 4 new frame.
 fn bits_of(advance: bool, reset: bool, opens: bool) -> u8
     ensures { λ r. ⌜ r ≡ bitsOf advance reset opens ⌝ }
 {

@@ -1,1 +1,7 @@
 pub mod Time
+pub mod Ledger
+pub mod PlanOf
+pub mod Lasting
+pub mod History
+pub mod Keeps
+pub mod Lawful

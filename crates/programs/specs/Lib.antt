@@ -1,8 +1,16 @@
 pub mod Records
 pub mod Parts
+pub mod Formed
 pub mod Round
 pub mod Signals
 pub mod Source
 pub mod Entering
 pub mod Fresh
 pub mod Range
+pub mod Rounds
+pub mod Exactly
+pub mod Sound
+pub mod Wakes
+pub mod EntryMarks
+pub mod Still
+pub mod Lawful

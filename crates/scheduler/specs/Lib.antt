@@ -4,3 +4,13 @@ pub mod Entry
 pub mod Calls
 pub mod Steps
 pub mod Start
+pub mod Lasting
+pub mod Told
+pub mod Refusals
+pub mod PlanTime
+pub mod Entries
+pub mod Still
+pub mod Sound
+pub mod Lawful
+pub mod Starts
+pub mod Says

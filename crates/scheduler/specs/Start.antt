@@ -7,7 +7,7 @@ use Rattle.rules.specs.declared.refusal.Verdict.the-variants.{Accepted, Refused
 use Rattle.policy.specs.declared.value.Policy.{Policy}
 use Rattle.policy.specs.declared.reader.Reading.{Reading}
 use Rattle.policy.specs.Writes.{known}
-use Rattle.scheduler.specs.declared.start.Started.{Started}
+use Rattle.scheduler.specs.declared.starting.Started.{Started}
 use Rattle.scheduler.specs.States.{freshState, zeroState}
 
 -- nothing is started, and the refusal goes up with its line

@@ -3,13 +3,13 @@ pub mod call; // the seven calls
 pub mod entry; // who is entered next
 pub mod event; // a source event handled, in a hypercall or a trap
 pub mod range; // the list of refusal 80
-pub mod start; // from the reader's answer
+pub mod starting; // from the reader's answer
 pub mod state; // the state, its parts stored
-pub mod step; // refusals 80 to 85, and one call
+pub mod stepping; // refusals 80 to 85, and one call
 
-pub use start::Started;
-pub use start::start;
+pub use starting::Started;
+pub use starting::start;
 pub use state::State;
 pub use state::Stepped;
-pub use step::serve;
-pub use step::step;
+pub use stepping::serve;
+pub use stepping::step;

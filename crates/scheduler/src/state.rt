@@ -120,7 +120,8 @@ impl State {
         ensures { λ r. ⌜ r ≡ aloneOn self cpu ⌝ }
     {
         let subject = self.entered_on(cpu);
-        self.entered = [NOBODY; 4];
+        let others = [NOBODY; 4];
+        self.entered = others;
         self.with_entered(cpu, subject)
     }
 

@@ -3,7 +3,7 @@ use crate::bench::Bench;
 use crate::change::changed;
 use crate::format::line_end;
 use crate::print;
-use calls::hear::hear;
+use calls::hear;
 use policy::read;
 use rules::Verdict;
 use scheduler::start;

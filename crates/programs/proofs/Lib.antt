@@ -1,0 +1,15 @@
+pub mod Laws
+pub mod CodeLaws
+pub mod PartLaws
+pub mod FreshLaws
+pub mod PendingLaws
+pub mod SignalLaws
+pub mod RoutedLaws
+pub mod SourceLaws
+pub mod WakeLaws
+pub mod EnteringLaws
+pub mod StillLaws
+pub mod RoundLaws
+pub mod RangeTest
+pub mod RangeLaws
+pub mod Conditions
