@@ -1,4 +1,6 @@
-// The scheduler: calls answered, one at a time, and what is entered.
+// The scheduler: calls answered, one at a time, and who is entered.
+ghost use Rattle.scheduler.specs.Lawful.{Lawful};
+
 pub mod call; // the seven calls
 pub mod entry; // who is entered next
 pub mod event; // a source event handled, in a hypercall or a trap
@@ -13,3 +15,8 @@ pub use state::State;
 pub use state::Stepped;
 pub use stepping::serve;
 pub use stepping::step;
+
+// No code: that a start and a step keep the laws is this function's contract.
+pub fn lawful()
+    ensures { λ _. ⌜ Lawful ⌝ }
+{}
