@@ -12,5 +12,6 @@ pub mod EntryDone
 pub mod Places
 pub mod LastingTest
 pub mod CallDone
+pub mod EnteredStill
 pub mod StillLaws
 pub mod SoundLaws
