@@ -29,7 +29,7 @@ use Rattle.scheduler.specs.Told.{isStopped, tellsNewFrame}
 use Rattle.scheduler.specs.Still.{madeOn}
 use Rattle.scheduler.specs.Lasting.{lasting, Formed}
 use Rattle.scheduler.proofs.CallLeaves.{flag-beside, alone-beside, entry-leaves}
-use Rattle.scheduler.proofs.Ways.{Made, by-ways}
+use Rattle.scheduler.proofs.Ways.{by-ways}
 use Rattle.scheduler.proofs.Making.{nobody-else}
 use Rattle.scheduler.proofs.LastingTest.{lasts-of}
 

@@ -100,7 +100,7 @@ after-stop rows s call.Masks e a = refl
 stays-stopped : (p : Policy) (s : State) (h : Heard) → s .stopped ≡ true → stepOf p s h .state ≡ s
 unfolding refused
 stays-stopped p s h e =
-    step-cases (λ (r : Stepped). r .state ≡ s) p s h (λ why. refl) (λ c f. after-stop (p .rows) s c e (f .goes-on))
+    step-cases (λ (r : Stepped). r .state ≡ s) p s h (λ why. refl) (λ c f. after-stop (p .rows) s c e (f .passes .goes-on))
 
 nobody-after-stop : (p : Policy) (s : State) (h : Heard) → isStopped (stepOf p s h .answer) ≡ true
     → (cpu : ℕ) → enteredOn (stepOf p s h .state) cpu ≡ nobody

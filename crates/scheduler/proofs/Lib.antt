@@ -1,5 +1,6 @@
 pub mod CallLeaves
 pub mod TickTaken
+pub mod Allowed
 pub mod StepCases
 pub mod RefusalLaws
 pub mod PlanTimeLaws

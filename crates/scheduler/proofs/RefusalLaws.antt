@@ -20,8 +20,9 @@ use Rattle.scheduler.specs.declared.state.Stepped.{Stepped}
 use Rattle.scheduler.specs.Calls.{refused, called}
 use Rattle.scheduler.specs.Steps.{noSuch, badFlag, afterStop, nobodyThere, answered, served, stepOf}
 use Rattle.scheduler.specs.Told.{isRefused}
-use Rattle.scheduler.specs.Refusals.{usable, FirstThatApplies, Refusals}
-use Rattle.scheduler.proofs.StepCases.{step-served, step-refused, usable-facts, usable-clock, fine-leaves, step-cases}
+use Rattle.scheduler.specs.Refusals.{usable, FirstThatApplies, Allowed, Refusals}
+use Rattle.scheduler.proofs.StepCases.{step-served, step-refused, usable-facts, usable-clock, fine-leaves, step-cases, taken-called}
+use Rattle.scheduler.proofs.Allowed.{passes-allowed, allowed-passes}
 use Rattle.scheduler.proofs.TickTaken.{called-leaves}
 
 -- two refusals are apart where their codes are
@@ -124,6 +125,13 @@ module _ (p : Policy) (s : State) (u : usable p s ≡ true) where
         taken = f .taken;
       }
 
+  taken-exactly : (c : Call) → (isRefused (stepOf p s (heard.Call c) .answer) ≡ false) ↔ Allowed (p .rows) s c
+  taken-exactly c = (
+    λ h. passes-allowed (p .rows) s c (taken-called p s c h .0 .passes),
+    λ a.
+        let t = allowed-passes (p .rows) s c a in call-first c .taken (t .there) (t .flagged) (t .goes-on) (t .somebody),
+  )
+
   ill-formed : stepOf p s heard.IllFormed .answer ≡ Refused IllFormed
   unfolding served refused
   ill-formed = rw (step-served p s heard.IllFormed u)
@@ -151,4 +159,5 @@ refusals = record {
   eighty = eighty;
   eighty-one = λ p s h u. eighty-one p s u h;
   first-that-applies = λ p s c u. first-that-applies p s u c;
+  taken-exactly = λ p s c u. taken-exactly p s u c;
 }

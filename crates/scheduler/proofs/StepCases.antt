@@ -22,6 +22,7 @@ use Rattle.scheduler.specs.Steps.{noSuch, badFlag, afterStop, nobodyTher
 use Rattle.scheduler.specs.Told.{isRefused}
 use Rattle.scheduler.specs.Refusals.{usable}
 use Rattle.scheduler.proofs.CallLeaves.{Leaves, clockThen, opensThen}
+use Rattle.scheduler.proofs.Allowed.{Passes}
 use Rattle.scheduler.proofs.TickTaken.{ClockRange, clock-range, called-leaves}
 
 -- ---- 80
@@ -47,15 +48,12 @@ usable-clock p s u =
 -- none applies
 pub record Fine (p : Policy) (s : State) (c : Call) : Type 0 where
   pub in-range : usable p s ≡ true
-  pub there : noSuch (p .rows) c ≡ false
-  pub flagged : badFlag c ≡ false
-  pub goes-on : afterStop s c ≡ false
-  pub somebody : nobodyThere s c ≡ false
+  pub passes : Passes (p .rows) s c
 
 -- so it is not refused
 pub fine-leaves : (p : Policy) (s : State) (c : Call) → Fine p s c
     → Leaves s (clockThen (p .rows) (s .clock) c) (opensThen (p .rows) (s .clock) c) (called (p .rows) s c)
-fine-leaves p s c f = called-leaves (p .rows) (usable-facts p s (f .in-range)) s (usable-clock p s (f .in-range)) c (f .there)
+fine-leaves p s c f = called-leaves (p .rows) (usable-facts p s (f .in-range)) s (usable-clock p s (f .in-range)) c (f .passes .there)
 
 -- one applies, or none
 pub call-cases : (P : Stepped → Type 0) (p : Policy) (s : State) (c : Call) → ((why : Refusal) → P (refused s why))
@@ -67,7 +65,7 @@ call-cases P p s c out on =
     (λ n. by-cond P (badFlag c) _ _ (λ t. out BadFlag)
     (λ b. by-cond P (afterStop s c) _ _ (λ t. out Stopped)
     (λ a. by-cond P (nobodyThere s c) _ _ (λ t. out NobodyEntered)
-    (λ e. on (record { in-range = u; there = n; flagged = b; goes-on = a; somebody = e }))))))
+    (λ e. on (record { in-range = u; passes = record { there = n; flagged = b; goes-on = a; somebody = e } }))))))
     (λ u. out OutOfRange)
 
 -- a line that is no call

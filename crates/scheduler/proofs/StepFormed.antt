@@ -5,7 +5,7 @@ use mathlib.Core.Bool.{_&&_}
 use mathlib.Core.List.{List}
 use mathlib.Core.Path.{refl, _∙_}
 use lib.Dec.{eqb}
-use lib.ListN.{replicate, length-set}
+use lib.ListN.{length-set}
 use Rattle.hexline.proofs.Cond.{by-cond}
 use Rattle.policy.specs.declared.value.Policy.{Policy}
 use Rattle.policy.specs.Writes.{known}

@@ -7,7 +7,7 @@ use mathlib.Core.List.{List}
 use mathlib.Core.Path.{_≡_}
 use lib.Dec.{eqb}
 use Rattle.bits.specs.Sets.{has64, has256}
-use Rattle.rows.specs.Lookups.{countsOf, cpuOf, partitionOf, groupOf}
+use Rattle.rows.specs.Lookups.{countsOf, cpuOf, partitionOf}
 use Rattle.accepted.specs.Facts.{Facts, cpuOfSubject}
 use Rattle.clock.specs.Time.{waiting, currentPartition}
 use Rattle.programs.specs.Parts.{groupAt, subjectAt, activeGroup, activeSubject}

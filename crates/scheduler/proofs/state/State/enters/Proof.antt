@@ -3,6 +3,7 @@ use borrow.Author.Needs.{needs}
 use Rattle.scheduler.proofs.state.State.enters.Statement.{statement}
 use Rattle.scheduler.proofs.state.State.enters.Tie as tie
 use Rattle.scheduler.specs.Entry.{enters}
+use mathlib.Core.Path.{sym}
 
 ticks-left-requires : tie.Need-ticks-left-requires
 ticks-left-requires c κs = search needs
@@ -21,7 +22,7 @@ with-entered-requires c κs = search needs
 
 returns : tie.Need-returns
 unfolding enters
-returns c = rw (← c .before .before .before .before .before .ticks-left .ensures, ← c .before .before .before .entering .ensures .0, ← c .before .before .injected-of .ensures, ← c .before .with-programs .ensures, ← c .with-entered .ensures)
+returns c = simp (sym (c .before .before .before .before .before .ticks-left .ensures), sym (c .before .before .before .entering .ensures .0), sym (c .before .before .injected-of .ensures), sym (c .before .with-programs .ensures), sym (c .with-entered .ensures))
 
 pub enters-spec : {M : Type 1} → statement M
 enters-spec =
