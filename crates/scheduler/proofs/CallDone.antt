@@ -21,14 +21,16 @@ use Rattle.calls.specs.declared.answer.Notes.{Notes}
 use Rattle.calls.specs.declared.call.Heard.{Heard}
 use Rattle.calls.specs.Answers.{nobody}
 use Rattle.scheduler.specs.declared.state.State.{State}
+use Rattle.scheduler.specs.declared.state.Stepped.{Stepped}
 use Rattle.scheduler.specs.States.{enteredOn, withClock, withPrograms, flagStored, halted}
 use Rattle.scheduler.specs.Entry.{entryOf}
+use Rattle.scheduler.specs.Calls.{plain, newFrame}
 use Rattle.scheduler.specs.Steps.{served}
 use Rattle.scheduler.specs.Still.{ElsewhereStill}
 use Rattle.scheduler.specs.Lasting.{Formed}
 use Rattle.scheduler.proofs.CallLeaves.{nobody-there, flag-beside}
 use Rattle.scheduler.proofs.Ways.{Made, by-ways}
-use Rattle.scheduler.proofs.Elsewhere.{Stays, Elsewhere}
+use Rattle.scheduler.proofs.Elsewhere.{Untouched, Stays}
 use Rattle.scheduler.proofs.Making.{Ready, Done, done-then, nobody-else, alone-done, halted-done, stored-done, ticked-done, handled-done, interrupted-done}
 use Rattle.scheduler.proofs.EntryDone.{Fits, Entered, entry-done}
 use Rattle.scheduler.proofs.Places.{SamePlace, same-clock, place-chosen, place-elsewhere, place-on}
@@ -41,16 +43,14 @@ pub record Went (rows : List ℕ) (h : Heard) (s t : State) : Type 0 where
 
 -- ---- a call on a CPU
 
-still-of : (rows : List ℕ) (h : Heard) (cpu : ℕ) → Made h cpu → (s t : State) → Elsewhere rows cpu s t → ElsewhereStill rows h s t
-still-of rows h cpu made s t d =
-    let u = d .programs in
+still-of : (rows : List ℕ) (h : Heard) (cpu : ℕ) → Made h cpu → (s t : State) → Untouched rows cpu (s .programs) (t .programs) → ElsewhereStill rows h s t
+still-of rows h cpu made s t u =
     record {
       active-group = λ q l f. u .active-groups q (made _ f);
       active-subject = λ g l f. u .active-subjects g (made _ f);
       opened = λ x l f. u .opened x (made _ f);
       events = λ x e l f p. u .events x e (made _ f) p;
       vectors = λ x v l f p. u .vectors x v (made _ f) p;
-      entered = λ c f. d .entered c (made c f);
     }
 
 module _ (rows : List ℕ) (facts : Facts rows) (h : Heard) (s : State) (f : Formed s) (a : Lasts rows s) where
@@ -69,7 +69,6 @@ module _ (rows : List ℕ) (facts : Facts rows) (h : Heard) (s : State) (f : For
           opened = λ x l e. refl;
           events = λ x e l n p. p;
           vectors = λ x v l n p. p;
-          entered = λ c e. inl refl;
         };
         wakes = λ n. n;
       }
@@ -83,7 +82,7 @@ module _ (rows : List ℕ) (facts : Facts rows) (h : Heard) (s : State) (f : For
     done-went t d fits =
         record {
           lasts = record { clock = d .ready .clock; programs = d .ready .programs; entered = fits };
-          still = still-of rows h cpu made s t (d .elsewhere);
+          still = still-of rows h cpu made s t (d .elsewhere .programs);
           wakes = d .wakes;
         }
 
@@ -129,28 +128,28 @@ module _ (rows : List ℕ) (facts : Facts rows) (h : Heard) (s : State) (f : For
 pub call-went : (rows : List ℕ) (s : State) (h : Heard) → Facts rows → Formed s → Lasts rows s → Went rows h s (served rows s h .state)
 unfolding withClock withPrograms enteredOn
 call-went rows s h facts f a =
-    by-ways rows h s (Went rows h s)
+    by-ways rows h s (λ (t : Stepped). Went rows h s (t .state))
     (record {
-      same = same-went rows facts h s f a;
+      same = λ x q. same-went rows facts h s f a;
       chose = λ major l. clock-went rows facts h s f a _ (lasting-choose rows (s .clock) (a .clock) major l) (λ c. place-chosen rows c major (s .clock));
-      went-on = λ cpu made l on.
+      went-on = λ cpu made l on x n.
           clock-went rows facts h s f a _ (lasting-tick rows facts (s .clock) (f .clock) (a .clock) cpu l .lasting) (place-on rows (s .clock) cpu (inside cpu l) on);
-      moved = λ cpu flag notes made l shut.
-          entry-went rows facts h s f a cpu made l _ (tick-done cpu flag l) notes
+      moved = λ cpu flag made l shut.
+          entry-went rows facts h s f a cpu made l _ (tick-done cpu flag l) plain
           (λ c d. inl (subst (SamePlace rows c (s .clock)) (sym (flag-beside (withClock s (tickOf rows (s .clock) cpu .clock)) cpu flag .clock)) (place-elsewhere rows (s .clock) cpu shut c d)));
-      opened = λ cpu flag notes made l opens.
+      opened = λ cpu flag made l opens.
           let d = tick-done cpu flag l in
-          entry-went rows facts h s f a cpu made l _ (done-then rows cpu s _ _ d (alone-done rows cpu _ (d .ready))) notes (λ c ne. inr (nobody-else _ cpu c ne));
-      stopped = λ cpu flag made l. halted-went rows facts h s f a cpu made l flag;
-      handles = λ cpu flag event notes made l somebody of.
+          entry-went rows facts h s f a cpu made l _ (done-then rows cpu s _ _ d (alone-done rows cpu _ (d .ready))) newFrame (λ c ne. inr (nobody-else _ cpu c ne));
+      stopped = λ cpu flag made l x why. halted-went rows facts h s f a cpu made l flag;
+      handles = λ cpu flag event made l somebody of notes e.
           let d = flag-done rows facts h s f a cpu made l flag in
           entry-went rows facts h s f a cpu made l _
           (done-then rows cpu s _ _ d (handled-done rows facts cpu l _ (d .ready) (enteredOn s cpu) event (home cpu l somebody) of)) notes
           (λ c ne. inl (same-clock rows c (s .clock) _ (flag-beside s cpu flag .clock)));
-      interrupts = λ cpu vector flag notes made l.
+      interrupts = λ cpu vector flag made l.
           let d = flag-done rows facts h s f a cpu made l flag in
           entry-went rows facts h s f a cpu made l _
-          (done-then rows cpu s _ _ d (interrupted-done rows facts cpu l _ (d .ready) (record { 0 = vector }))) notes
+          (done-then rows cpu s _ _ d (interrupted-done rows facts cpu l _ (d .ready) (record { 0 = vector }))) plain
           (λ c ne. inl (same-clock rows c (s .clock) _ (flag-beside s cpu flag .clock)));
     })
   where

@@ -15,6 +15,7 @@ pub mod EntryDone
 pub mod Places
 pub mod LastingTest
 pub mod CallDone
+pub mod EnteredStill
 pub mod StillLaws
 pub mod SoundLaws
 pub mod Conditions

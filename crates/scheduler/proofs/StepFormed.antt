@@ -5,7 +5,7 @@ use mathlib.Core.Bool.{_&&_}
 use mathlib.Core.List.{List}
 use mathlib.Core.Path.{refl, _∙_}
 use lib.Dec.{eqb}
-use lib.ListN.{replicate, length-set}
+use lib.ListN.{length-set}
 use Rattle.hexline.proofs.Cond.{by-cond}
 use Rattle.policy.specs.declared.value.Policy.{Policy}
 use Rattle.policy.specs.Writes.{known}
@@ -27,7 +27,7 @@ use Rattle.scheduler.specs.declared.state.Stepped.{Stepped}
 use Rattle.scheduler.specs.States.{enteredOn, withClock, withPrograms, withEntered, freshState, flagStored, aloneOn, halted}
 use Rattle.scheduler.specs.Range.{inRange}
 use Rattle.scheduler.specs.Entry.{enters, admitted, entryOf}
-use Rattle.scheduler.specs.Calls.{refused}
+use Rattle.scheduler.specs.Calls.{plain, newFrame, refused}
 use Rattle.scheduler.specs.Steps.{served, stepOf}
 use Rattle.scheduler.specs.Lasting.{Formed}
 use Rattle.scheduler.proofs.Ways.{by-ways}
@@ -56,11 +56,11 @@ module _ (s : State) (f : Formed s) where
   pub alone-formed : (cpu : ℕ) → Formed (aloneOn s cpu)
   unfolding aloneOn
   alone-formed cpu =
-      record { clock = f .clock; programs = f .programs; entered = length-set (replicate 4 nobody) cpu (enteredOn s cpu) ∙ refl }
+      record { clock = f .clock; programs = f .programs; entered = search length-set }
 
   pub halted-formed : Formed (halted s)
   unfolding halted
-  halted-formed = record { clock = f .clock; programs = f .programs; entered = refl }
+  halted-formed = record { clock = f .clock; programs = f .programs; entered = search }
 
 -- ---- an entry
 
@@ -85,16 +85,20 @@ module _ (rows : List ℕ) (s : State) (f : Formed s) (cpu : ℕ) (notes : Notes
 
 pub served-formed : (rows : List ℕ) (s : State) (h : Heard) → Formed s → Formed (served rows s h .state)
 served-formed rows s h f =
-    by-ways rows h s Formed
+    by-ways rows h s (λ (t : Stepped). Formed (t .state))
     (record {
-      same = f;
+      same = λ a q. f;
       chose = λ major l. clock-formed s f _ (formed-choose (s .clock) major (f .clock));
-      went-on = λ cpu m l e. ticked cpu;
-      moved = λ cpu flag notes m l e. entry-formed rows _ (stored-formed _ (ticked cpu) cpu flag) cpu notes;
-      opened = λ cpu flag notes m l e. entry-formed rows _ (alone-formed _ (stored-formed _ (ticked cpu) cpu flag) cpu) cpu notes;
-      stopped = λ cpu flag m l. halted-formed _ (stored-formed s f cpu flag);
-      handles = λ cpu flag event notes m l n o. let a = stored-formed s f cpu flag in entry-formed rows _ (programs-formed _ a _ (laws .formed .handled rows _ _ event (a .programs))) cpu notes;
-      interrupts = λ cpu vector flag notes m l. let a = stored-formed s f cpu flag in entry-formed rows _ (programs-formed _ a _ (laws .formed .interrupted rows _ _ (a .programs))) cpu notes;
+      went-on = λ cpu m l e x n. ticked cpu;
+      moved = λ cpu flag m l e. entry-formed rows _ (stored-formed _ (ticked cpu) cpu flag) cpu plain;
+      opened = λ cpu flag m l e. entry-formed rows _ (alone-formed _ (stored-formed _ (ticked cpu) cpu flag) cpu) cpu newFrame;
+      stopped = λ cpu flag m l x why. halted-formed _ (stored-formed s f cpu flag);
+      handles = λ cpu flag event m l n o notes e.
+          let a = stored-formed s f cpu flag in
+          entry-formed rows _ (programs-formed _ a _ (laws .formed .handled rows _ _ event (a .programs))) cpu notes;
+      interrupts = λ cpu vector flag m l.
+          let a = stored-formed s f cpu flag in
+          entry-formed rows _ (programs-formed _ a _ (laws .formed .interrupted rows _ _ (a .programs))) cpu plain;
     })
   where
     ticked : (cpu : ℕ) → Formed (withClock s (tickOf rows (s .clock) cpu .clock))

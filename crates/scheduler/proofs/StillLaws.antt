@@ -45,6 +45,7 @@ use Rattle.scheduler.proofs.StepFormed.{stored-formed}
 use Rattle.scheduler.proofs.EntryDone.{into, groups-into, subjects-into}
 use Rattle.scheduler.proofs.LastingTest.{lasts-of}
 use Rattle.scheduler.proofs.CallDone.{call-went}
+use Rattle.scheduler.proofs.EnteredStill.{opening-alone, entered-still}
 
 -- ---- the call is taken
 
@@ -170,6 +171,8 @@ pub still : Still
 still =
     record {
       elsewhere-still = λ rows s h facts f e. call-went rows s h facts f (lasts-of rows s e) .still;
+      opening-alone = opening-alone;
+      entered-still = λ rows s h facts f e c m. entered-still rows s h c m facts f e;
       no-switch = λ rows s cpu vector flag facts f runs l few.
           subst (λ (t : Stepped). NoSwitch rows cpu s (t .state)) (sym (interrupt-taken rows s cpu vector flag runs l few)) (switches rows facts s f cpu vector flag l);
       no-lost-wake = λ rows s h facts f e n. call-went rows s h facts f (lasts-of rows s e) .wakes n;

@@ -1,14 +1,13 @@
 -- Laws of what a call leaves alone, of lasting states: a call on a CPU changes no active group, active subject, openness or taken mark of
--- another CPU's subjects; an interrupt never moves the active group or subject of a partition whose active group is awake; and no
--- wake is lost.
+-- another CPU's subjects, nor who is entered there, unless a frame opens or the core stops; an interrupt never moves the active group or
+-- subject of a partition whose active group is awake; and no wake is lost.
 use Prim.Native.Nat.{ℕ, _<_}
 use mathlib.Core.Bool.{Bool, true, false}
 use mathlib.Core.List.{List}
-use mathlib.Core.Logic.{_⊎_}
 use mathlib.Core.Path.{_≡_}
 use lib.Dec.{eqb}
 use Rattle.bits.specs.Sets.{has64, has256}
-use Rattle.rows.specs.Lookups.{countsOf, cpuOf, partitionOf, groupOf}
+use Rattle.rows.specs.Lookups.{countsOf, cpuOf, partitionOf}
 use Rattle.accepted.specs.Facts.{Facts, cpuOfSubject}
 use Rattle.clock.specs.Time.{waiting, currentPartition}
 use Rattle.programs.specs.Parts.{groupAt, subjectAt, activeGroup, activeSubject}
@@ -23,6 +22,7 @@ use Rattle.scheduler.specs.States.{enteredOn}
 use Rattle.scheduler.specs.Range.{activeOn}
 use Rattle.scheduler.specs.Lasting.{lasting, Formed}
 use Rattle.scheduler.specs.Steps.{served}
+use Rattle.scheduler.specs.Told.{isStopped, tellsNewFrame}
 
 -- whether a call is made on a CPU
 abbrev pub madeOn : ℕ → Heard → Bool
@@ -48,8 +48,6 @@ pub record ElsewhereStill (rows : List ℕ) (h : Heard) (s t : State) : Type 0 w
       → has64 (subjectAt (s .programs) x .events) e ≡ true → has64 (subjectAt (t .programs) x .events) e ≡ true
   pub vectors : (x v : ℕ) → x < countsOf rows .subjects → madeOn (cpuOfSubject rows x) h ≡ false
       → has256 (subjectAt (s .programs) x .vectors) v ≡ true → has256 (subjectAt (t .programs) x .vectors) v ≡ true
-  -- nobody comes in; who was there may have to leave, where a frame opens or the core stops
-  pub entered : (c : ℕ) → madeOn c h ≡ false → (enteredOn t c ≡ enteredOn s c) ⊎ (enteredOn t c ≡ nobody)
 
 -- an interrupt on a CPU; s before, t after
 pub record NoSwitch (rows : List ℕ) (cpu : ℕ) (s t : State) : Type 0 where
@@ -64,6 +62,13 @@ pub record NoSwitch (rows : List ℕ) (cpu : ℕ) (s t : State) : Type 0 where
 pub record Still : Type 0 where
   pub elsewhere-still : (rows : List ℕ) (s : State) (h : Heard) → Facts rows → Formed s → lasting rows s ≡ true
       → ElsewhereStill rows h s (served rows s h .state)
+  -- where a frame opens, "CPUs other than the caller have nobody entered until their own next exit"; of any table and state
+  pub opening-alone : (rows : List ℕ) (s : State) (h : Heard) (c : ℕ) → madeOn c h ≡ false → tellsNewFrame (served rows s h .answer) ≡ true
+      → enteredOn (served rows s h .state) c ≡ nobody
+  -- else nobody comes in there, and nobody has to leave unless the core stops
+  pub entered-still : (rows : List ℕ) (s : State) (h : Heard) → Facts rows → Formed s → lasting rows s ≡ true → (c : ℕ) → madeOn c h ≡ false
+      → tellsNewFrame (served rows s h .answer) ≡ false → isStopped (served rows s h .answer) ≡ false
+      → enteredOn (served rows s h .state) c ≡ enteredOn s c
   pub no-switch : (rows : List ℕ) (s : State) (cpu vector flag : ℕ) → Facts rows → Formed s → s .stopped ≡ false
       → cpu < countsOf rows .cpus → flag < 2
       → NoSwitch rows cpu s (served rows s (heard.Call (call.Interrupt cpu vector flag)) .state)

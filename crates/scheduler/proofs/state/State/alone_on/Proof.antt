@@ -12,7 +12,7 @@ with-entered-requires c κs = search needs
 
 returns : tie.Need-returns
 unfolding aloneOn withEntered
-returns c = rw (← c .before .entered-on .ensures) (c .with-entered .ensures)
+returns c = cc
 
 pub alone-on-spec : {M : Type 1} → statement M
 alone-on-spec = tie.close (tie.spec entered-on-requires with-entered-requires returns)
