@@ -4,4 +4,5 @@ pub mod Allowed
 pub mod StepCases
 pub mod RefusalLaws
 pub mod PlanTimeLaws
+pub mod AfterEntry
 pub mod EntryLaws
