@@ -1,9 +1,9 @@
 -- None of the tests of 82 to 85 applies exactly where a call is allowed in numbers: test by test, call by call.
-use Prim.Native.Nat.{ℕ, _<_, _≤_}
+use Prim.Native.Nat.{ℕ}
 use mathlib.Core.Bool.{Bool, true, false, _&&_}
 use mathlib.Core.List.{List}
 use mathlib.Core.Path.{_≡_, refl, sym, _∙_}
-use lib.Dec.{leb, ltb, eqb}
+use lib.Dec.{leb, ltb}
 use borrow.Author.Tests.{leb-false, lt-leb, ltb-false, le-ltb, eqb-false, ne-eqb}
 use Rattle.rows.specs.Lookups.{countsOf}
 use Rattle.calls.specs.declared.call.Call.{Call}

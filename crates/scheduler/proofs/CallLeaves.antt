@@ -17,6 +17,7 @@ use Rattle.clock.specs.History.{waits, opens, refuses}
 use Rattle.programs.specs.declared.round.Found.{Found}
 use Rattle.programs.specs.declared.round.Found.the-variants.{Nobody, At}
 use Rattle.programs.specs.declared.whole.Programs.{Programs}
+use Rattle.programs.specs.Parts.{withActive}
 use Rattle.programs.specs.Round.{chosenGroup}
 use Rattle.calls.specs.declared.answer.Notes.{Notes}
 use Rattle.calls.specs.declared.answer.Reason.{Reason}
@@ -86,7 +87,7 @@ module _ (rows : List ℕ) (cpu : ℕ) (notes : Notes) where
   admitted-leaves s partition Nobody =
       record { clock = refl; taken = refl; frame = refl; stopped = λ h. h; nobody-after = λ h. absurd (false≢true h) }
   admitted-leaves s partition (At group) =
-      carry s (withPrograms s _) (s .clock) _ _ refl refl (enters-leaves _ _)
+      carry s (withPrograms s (withActive (s .programs) partition group)) (s .clock) _ _ refl refl (enters-leaves _ _)
 
   -- bit 4 is as handed in; "wait" has no bits
   pub entry-leaves : (s : State) (o : Bool) → notes .«new_frame» ≡ o → (waiting (s .clock) cpu ≡ true → o ≡ false)

@@ -30,6 +30,7 @@ use Rattle.scheduler.specs.Calls.{refused, reportCall, masksCall, called
 use Rattle.scheduler.specs.Steps.{minds, afterStop, stepOf}
 use Rattle.scheduler.specs.Told.{isStopped}
 use Rattle.scheduler.specs.Entries.{EntryFinds, Entries}
+use Rattle.scheduler.proofs.AfterEntry.{step-after, then-entry}
 use Rattle.scheduler.proofs.StepCases.{fine-leaves, step-cases}
 
 -- ---- an entry
@@ -110,4 +111,4 @@ nobody-after-stop p s h =
     (λ why q. absurd (false≢true q)) (λ c f. fine-leaves p s c f .nobody-after)
 
 pub entries : Entries
-entries = record { entry = entry-finds; stopped = stopped; stays-stopped = stays-stopped; nobody-after-stop = nobody-after-stop }
+entries = record { entry = entry-finds; step = step-after; then-entry = then-entry; stopped = stopped; stays-stopped = stays-stopped; nobody-after-stop = nobody-after-stop }

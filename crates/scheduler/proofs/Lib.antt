@@ -4,6 +4,7 @@ pub mod Allowed
 pub mod StepCases
 pub mod RefusalLaws
 pub mod PlanTimeLaws
+pub mod AfterEntry
 pub mod EntryLaws
 pub mod SaysLaws
 pub mod StartLaws

@@ -8,6 +8,7 @@ pub mod Lasting
 pub mod Told
 pub mod Refusals
 pub mod PlanTime
+pub mod AfterEntry
 pub mod Entries
 pub mod Still
 pub mod Sound

@@ -2,8 +2,7 @@
 -- sets the next major; every other call leaves the clock alone; and the count reported is the clock's. `Lawful.antt` of crate clock
 -- holds the clock to the ledger.
 use Prim.Native.Nat.{ℕ}
-use mathlib.Core.Bool.{true, false}
-use mathlib.Core.List.{List}
+use mathlib.Core.Bool.{false}
 use mathlib.Core.Path.{_≡_}
 use Rattle.clock.specs.Time.{countNow, countLast, tickOf, chosen}
 use Rattle.clock.specs.History.{opens}

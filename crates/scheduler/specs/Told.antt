@@ -25,6 +25,18 @@ isStopped (Report partition now last) = false
 isStopped (Masks lines) = false
 isStopped (Refused why) = false
 
+-- "Then entry"
+abbrev pub isEntry : Answer → Bool
+isEntry (Enter subject left injected reset notes) = true
+isEntry (Idle left notes) = true
+isEntry Wait = true
+isEntry (GoOn subject left) = false
+isEntry (Stopped subject reason) = false
+isEntry Chosen = false
+isEntry (Report partition now last) = false
+isEntry (Masks lines) = false
+isEntry (Refused why) = false
+
 -- "this tick opened a major frame"
 abbrev pub tellsNewFrame : Answer → Bool
 tellsNewFrame (Enter subject left injected reset notes) = notes .«new_frame»
