@@ -7,7 +7,7 @@ use crate::word::{WORD_BITS, clear_bit, set_bit, test_bit};
 
 const NUMBERS: u16 = 256;
 
-#[derive(Drop)]
+#[derive(Clone, Copy, Drop)]
 pub struct Bits256 {
     pub words: [u64; 4],
 }

@@ -1,4 +1,6 @@
 // Sets of numbers, a bit for each, in words of 64 bits.
+#![tactic(auto)]
+
 ghost use Rattle.bits.specs.Lawful.{Lawful};
 
 mod four_words; // the numbers 0-255

@@ -5,7 +5,7 @@ ghost use Rattle.bits.specs.Sets.{has64, none64, mark64, clear64, empty64, highe
 use crate::top::Highest;
 use crate::word::{WORD_BITS, clear_bit, set_bit, test_bit};
 
-#[derive(Drop)]
+#[derive(Clone, Copy, Drop)]
 pub struct Bits64 {
     pub word: u64,
 }

@@ -1,5 +1,5 @@
 // Which number of a set is the highest.
-#[derive(Drop)]
+#[derive(Clone, Copy, Drop)]
 pub enum Highest {
     At(u8),
     Nothing,

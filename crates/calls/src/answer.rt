@@ -6,20 +6,20 @@ use bits::Bits64;
 use meaning::SubjectVector;
 
 // The CPU that is kicked: the target's, when a handled event says so.
-#[derive(Drop)]
+#[derive(Clone, Copy, Drop)]
 pub enum Kick {
     Nobody,
     Cpu(u8),
 }
 
-#[derive(Drop)]
+#[derive(Clone, Copy, Drop)]
 pub enum Injected {
     Nothing,
     Vector(SubjectVector),
 }
 
 // What an answer tells of the call, beside whom it enters: bits 1 and 4, and the kick.
-#[derive(Drop)]
+#[derive(Clone, Copy, Drop)]
 pub struct Notes {
     pub advance: bool,
     // This tick opened a major frame.
@@ -28,7 +28,7 @@ pub struct Notes {
 }
 
 // Why nobody is entered on any CPU any more.
-#[derive(Drop)]
+#[derive(Clone, Copy, Drop)]
 pub enum Reason {
     Reboot,
     PowerOff,
@@ -37,7 +37,7 @@ pub enum Reason {
     HighTrap,
 }
 
-#[derive(Drop)]
+#[derive(Clone, Copy, Drop)]
 pub enum Refusal {
     // 80: the policy handed in is one that no accepted text gives, or the state has something out of range.
     OutOfRange,
@@ -53,7 +53,7 @@ pub enum Refusal {
     NobodyEntered,
 }
 
-#[derive(Drop)]
+#[derive(Clone, Copy, Drop)]
 pub enum Answer {
     Enter {
         subject: u8,

@@ -1,6 +1,6 @@
 // The seven calls. Event, trap, vector and flag are any byte, and so are CPU, major and partition: whether there is such a one is
 // the scheduler's to say.
-#[derive(Drop)]
+#[derive(Clone, Copy, Drop)]
 pub enum Call {
     Tick { cpu: u8, flag: u8 },
     Hypercall { cpu: u8, event: u8, flag: u8 },
@@ -12,7 +12,7 @@ pub enum Call {
 }
 
 // What a line of calls is heard as.
-#[derive(Drop)]
+#[derive(Clone, Copy, Drop)]
 pub enum Heard {
     Call(Call),
     // Ill formed, of an unknown kind or of the wrong length.

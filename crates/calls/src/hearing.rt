@@ -22,7 +22,7 @@ const REPORT: u8 = 21;
 const MASKS: u8 = 22;
 
 // What the text of calls begins with.
-#[derive(Drop)]
+#[derive(Clone, Copy, Drop)]
 pub enum CallLine {
     // A line with its newline: what it is heard as, and where it ends, past its newline.
     Ended { heard: Heard, end: usize },

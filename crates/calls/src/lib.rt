@@ -1,5 +1,7 @@
 // The calls that the scheduler hears and the answers that it gives: a call heard from a line, an answer written as a line. Knows of
 // no policy and no state.
+#![tactic(auto)]
+
 ghost use Rattle.calls.specs.Lawful.{Lawful};
 
 pub mod answer; // the answers, with the paper's numbers for reasons and refusals

@@ -21,7 +21,7 @@ use Rattle.clock.specs.declared.time.Tick.{Tick}
 use Rattle.clock.specs.declared.time.Tick.TheVariants.{GoOn, Moved, Opened}
 use Rattle.clock.specs.declared.time.Ticked.{Ticked}
 use Rattle.clock.specs.Time.{no_cpu, cpu_at, current_frame, current_partition, ticks_left, waiting, finished, count_now, with_cpu, one_less, less_left, moved, opened, all_finished, most_count, tick_of}
-use Rattle.clock.specs.Time.{charged as chargedClock, settled as settledClock}
+use Rattle.clock.specs.Time.{charged as charged_clock, settled as settled_clock}
 use Rattle.clock.specs.Ledger.{laid, planned, one, occurs}
 use Rattle.clock.specs.PlanOf.{rest_of}
 use Rattle.clock.specs.Lasting.{Formed}
@@ -108,8 +108,8 @@ module _ (rows : List ℕ) (facts : Facts rows) (k : Clock) (r : Ready rows k) (
   -- the CPU's clock is replaced by one with a tick less ahead
   advance : (c' : CpuClock) → Less rows k.major cpu (cpu_at k cpu) c' → c'.minor < frame_count rows k.major cpu
       → ((cpu_at k cpu).left ≤ (frame_at rows k.major cpu (cpu_at k cpu).minor).length → c'.left ≤ (frame_at rows k.major cpu c'.minor).length)
-      → Advanced rows k cpu (current_partition rows k cpu) (with_cpu (chargedClock k (current_partition rows k cpu)) cpu c')
-  unfolding with_cpu chargedClock cpu_at ticks_left current_partition current_frame count_now Less
+      → Advanced rows k cpu (current_partition rows k cpu) (with_cpu (charged_clock k (current_partition rows k cpu)) cpu c')
+  unfolding with_cpu charged_clock cpu_at ticks_left current_partition current_frame count_now Less
   advance c' less lm ll =
       record {
         formed =
@@ -131,22 +131,22 @@ module _ (rows : List ℕ) (facts : Facts rows) (k : Clock) (r : Ready rows k) (
       same : get_or (set k.cpus cpu c') cpu no_cpu ≡ c'
       same = get_or-set_same k.cpus cpu c' no_cpu cpu_fits
 
-      new : rest_of rows (with_cpu (chargedClock k (current_partition rows k cpu)) cpu c') cpu ≡ ahead_of rows k.major cpu c'
-      new = rest_is rows (with_cpu (chargedClock k (current_partition rows k cpu)) cpu c') cpu ∙ ap (ahead_of rows k.major cpu) same
+      new : rest_of rows (with_cpu (charged_clock k (current_partition rows k cpu)) cpu c') cpu ≡ ahead_of rows k.major cpu c'
+      new = rest_is rows (with_cpu (charged_clock k (current_partition rows k cpu)) cpu c') cpu ∙ ap (ahead_of rows k.major cpu) same
 
-  runs_on : (c' : CpuClock) → (c'.left ≡ 0 → ⊥) → all_finished rows (with_cpu (chargedClock k (current_partition rows k cpu)) cpu c') ≡ false
-  unfolding all_finished finished waiting ticks_left cpu_at with_cpu chargedClock
+  runs_on : (c' : CpuClock) → (c'.left ≡ 0 → ⊥) → all_finished rows (with_cpu (charged_clock k (current_partition rows k cpu)) cpu c') ≡ false
+  unfolding all_finished finished waiting ticks_left cpu_at with_cpu charged_clock
   runs_on c' h =
-      below_stop (counts_of rows).cpus (finished (with_cpu (chargedClock k (current_partition rows k cpu)) cpu c')) cpu lc
+      below_stop (counts_of rows).cpus (finished (with_cpu (charged_clock k (current_partition rows k cpu)) cpu c')) cpu lc
       (ne_eqb _ 0 (λ e. h (ap (λ (x : CpuClock). x.left) (sym (get_or-set_same k.cpus cpu c' no_cpu cpu_fits)) ∙ e)))
 
   -- mid-frame, where the CPU itself has not finished
-  on_ran : ltb 1 (ticks_left k cpu) ≡ true → Ran rows k cpu (record { clock = less_left (chargedClock k (current_partition rows k cpu)) cpu; what = GoOn })
-  unfolding less_left ticks_left one_less cpu_at chargedClock
+  on_ran : ltb 1 (ticks_left k cpu) ≡ true → Ran rows k cpu (record { clock = less_left (charged_clock k (current_partition rows k cpu)) cpu; what = GoOn })
+  unfolding less_left ticks_left one_less cpu_at charged_clock
   on_ran t =
       let l : 1 < (cpu_at k cpu).left = ltb-true 1 (cpu_at k cpu).left t in
       record {
-        after = less_left (chargedClock k (current_partition rows k cpu)) cpu;
+        after = less_left (charged_clock k (current_partition rows k cpu)) cpu;
         what = GoOn;
         advanced = advance (one_less (cpu_at k cpu)) (less_on rows k.major cpu (cpu_at k cpu) some l) (r.minor cpu lc) (λ h. omega arith);
         shut = refl;
@@ -157,11 +157,11 @@ module _ (rows : List ℕ) (facts : Facts rows) (k : Clock) (r : Ready rows k) (
 
   -- at the minor frame's end
   over_advanced : ltb 1 (ticks_left k cpu) ≡ false
-      → Advanced rows k cpu (current_partition rows k cpu) (moved rows (chargedClock k (current_partition rows k cpu)) cpu)
-  unfolding moved ticks_left cpu_at chargedClock
+      → Advanced rows k cpu (current_partition rows k cpu) (moved rows (charged_clock k (current_partition rows k cpu)) cpu)
+  unfolding moved ticks_left cpu_at charged_clock
   over_advanced f =
       let l : (cpu_at k cpu).left ≤ 1 = ltb-false 1 (cpu_at k cpu).left f in
-      by_cond (λ (c' : CpuClock). Advanced rows k cpu (current_partition rows k cpu) (with_cpu (chargedClock k (current_partition rows k cpu)) cpu c'))
+      by_cond (λ (c' : CpuClock). Advanced rows k cpu (current_partition rows k cpu) (with_cpu (charged_clock k (current_partition rows k cpu)) cpu c'))
       (ltb ((cpu_at k cpu).minor + 1) (frame_count rows k.major cpu)) _ _
       (λ t. let lm = ltb-true _ _ t in
       let some_more = (facts.frame k.major cpu ((cpu_at k cpu).minor + 1) r.major lc lm).some in
@@ -170,11 +170,11 @@ module _ (rows : List ℕ) (facts : Facts rows) (k : Clock) (r : Ready rows k) (
       (λ n. advance (record { minor = (cpu_at k cpu).minor; left = 0 })
       (less_wait rows k.major cpu (cpu_at k cpu) some l (ltb-false _ _ n)) (r.minor cpu lc) (λ h. omega arith))
 
-  over_ran : ltb 1 (ticks_left k cpu) ≡ false → Ran rows k cpu (settledClock rows (moved rows (chargedClock k (current_partition rows k cpu)) cpu))
-  unfolding settledClock
+  over_ran : ltb 1 (ticks_left k cpu) ≡ false → Ran rows k cpu (settled_clock rows (moved rows (charged_clock k (current_partition rows k cpu)) cpu))
+  unfolding settled_clock
   over_ran f =
       record {
-        after = moved rows (chargedClock k (current_partition rows k cpu)) cpu;
+        after = moved rows (charged_clock k (current_partition rows k cpu)) cpu;
         what = Moved;
         advanced = over_advanced f;
         shut = refl;

@@ -43,31 +43,31 @@ module _ (rows : List ℕ) (facts : Facts rows) where
 
   module _ (k : Clock) (b : Begun rows k) where
     module _ (c : ℕ) (lc : c < (counts_of rows).cpus) where
-      some-minor : 0 < frame_count rows k.major c
-      some-minor = (facts.frame_count_lem k.major c b.major lc).0
+      some_minor : 0 < frame_count rows k.major c
+      some_minor = (facts.frame_count_lem k.major c b.major lc).0
 
-      some-tick : 1 ≤ (frame_at rows k.major c 0).length
-      some-tick = (facts.frame k.major c 0 b.major lc some-minor).some
+      some_tick : 1 ≤ (frame_at rows k.major c 0).length
+      some_tick = (facts.frame k.major c 0 b.major lc some_minor).some
 
-      pub begun-rest : rest_of rows k c ≡ minors_of rows k.major c
-      begun-rest = rest_is rows k c ∙ (ap (ahead_of rows k.major c) (b.first c lc) ∙ first_ahead rows k.major c some-minor some-tick)
+      pub begun_rest : rest_of rows k c ≡ minors_of rows k.major c
+      begun_rest = rest_is rows k c ∙ (ap (ahead_of rows k.major c) (b.first c lc) ∙ first_ahead rows k.major c some_minor some_tick)
 
-      pub begun-minor : (cpu_at k c).minor < frame_count rows k.major c
+      pub begun_minor : (cpu_at k c).minor < frame_count rows k.major c
       unfolding first
-      begun-minor = subst (λ (x : CpuClock). x.minor < frame_count rows k.major c) (sym (b.first c lc)) some-minor
+      begun_minor = subst (λ (x : CpuClock). x.minor < frame_count rows k.major c) (sym (b.first c lc)) some_minor
 
-      pub begun-left : ticks_left k c ≤ (current_frame rows k c).length
+      pub begun_left : ticks_left k c ≤ (current_frame rows k c).length
       unfolding ticks_left current_frame first
-      begun-left = subst (λ (x : CpuClock). x.left ≤ (frame_at rows k.major c x.minor).length) (sym (b.first c lc)) (omega arith)
+      begun_left = subst (λ (x : CpuClock). x.left ≤ (frame_at rows k.major c x.minor).length) (sym (b.first c lc)) (omega arith)
 
-      pub begun-busy : waiting k c ≡ false
+      pub begun_busy : waiting k c ≡ false
       unfolding waiting ticks_left first
-      begun-busy = ne_eqb (cpu_at k c).left 0 (λ e. let a = some-tick in let h = ap (λ (x : CpuClock). x.left) (b.first c lc) in omega arith)
+      begun_busy = ne_eqb (cpu_at k c).left 0 (λ e. let a = some_tick in let h = ap (λ (x : CpuClock). x.left) (b.first c lc) in omega arith)
 
-    pub begun-room : (q : ℕ) → q < (counts_of rows).partitions → count_now k q + planned q (rest_of rows k (cpu_of rows q)) ≤ most_count
-    begun-room q lq =
+    pub begun_room : (q : ℕ) → q < (counts_of rows).partitions → count_now k q + planned q (rest_of rows k (cpu_of rows q)) ≤ most_count
+    begun_room q lq =
         let lc = facts.partition_cpu q lq in
         let a = b.none q in
-        let d = ap (planned q) (begun-rest (cpu_of rows q) lc) in
+        let d = ap (planned q) (begun_rest (cpu_of rows q) lc) in
         let e = minors_le rows facts k.major (cpu_of rows q) q b.major lc in
         omega arith

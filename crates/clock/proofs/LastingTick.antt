@@ -15,8 +15,8 @@ use Rattle.clock.specs.History.{opens, refuses}
 use Rattle.clock.specs.Lawful.{LastingTick}
 use Rattle.clock.proofs.Advance.{Ready, ran, part_home}
 use Rattle.clock.proofs.Leaves.{tick_waits}
-use Rattle.clock.proofs.Begun.{opened_begun, begun-busy}
-use Rattle.clock.proofs.Lasts.{Lasts, lasts, lasting, advanced-lasts, opened_lasts}
+use Rattle.clock.proofs.Begun.{opened_begun, begun_busy}
+use Rattle.clock.proofs.Lasts.{Lasts, lasts, lasting, advanced_lasts, opened_lasts}
 
 ready : (rows : List ℕ) (k : Clock) → Formed k → Lasts rows k → Ready rows k
 ready rows k f s = record { formed = f; major = s.major; minor = s.minor; room = s.room }
@@ -34,14 +34,14 @@ module _ (rows : List ℕ) (facts : Facts rows) (k : Clock) (s : Lasts rows k) w
       (λ t. record {
         taken = refl;
         lasting = lasting rows (opened rows k') (opened_lasts rows facts k' s');
-        none_waits = λ o c l. begun-busy rows facts (opened rows k') (opened_begun rows facts k' s'.next) c l;
+        none_waits = λ o c l. begun_busy rows facts (opened rows k') (opened_begun rows facts k' s'.next) c l;
       })
       (λ f. record { taken = taken; lasting = lasting rows k' s'; none_waits = λ o c l. absurd (true≢false (sym o ∙ shut)) })
 
   busy_tick : Formed k → (cpu : ℕ) → cpu < (counts_of rows).cpus → waiting k cpu ≡ false → LastingTick rows k (tick_of rows k cpu)
   busy_tick f cpu lc b =
       let r = ran rows facts k (ready rows k f s) cpu lc b in
-      let s' = advanced-lasts rows k s cpu lc (current_partition rows k cpu) (part_home rows facts k (ready rows k f s) cpu lc b) r.after r.advanced in
+      let s' = advanced_lasts rows k s cpu lc (current_partition rows k cpu) (part_home rows facts k (ready rows k f s) cpu lc b) r.after r.advanced in
       subst (LastingTick rows k) (sym r.is) (settled_tick r.after r.what s' r.shut r.taken)
 
 pub lasting_tick : (rows : List ℕ) → Facts rows → (k : Clock) → Formed k → lasting_clock rows k ≡ true

@@ -23,7 +23,7 @@ use Rattle.clock.proofs.Choices.{cond_false, below_all}
 use Rattle.clock.proofs.Lists.{occurs_laid}
 use Rattle.clock.proofs.Advance.{Advanced}
 use Rattle.clock.proofs.Carried.{carried_minor, carried_left, carried_rest, carried_last}
-use Rattle.clock.proofs.Begun.{zeros, fresh_begun, opened_begun, begun-minor, begun-left, begun-room}
+use Rattle.clock.proofs.Begun.{zeros, fresh_begun, opened_begun, begun_minor, begun_left, begun_room}
 
 -- ---- what the test says
 
@@ -67,19 +67,19 @@ count_in k q a b = rw (le-leb _ _ a, le-leb _ _ b)
 pub lasting : (rows : List ℕ) (k : Clock) → Lasts rows k → lasting_clock rows k ≡ true
 unfolding lasting_clock room_for clock_in_range
 lasting rows k s =
-    let cpus = below_all (counts_of rows).cpus (cpu_in_range rows k) each-cpu in
-    let counts = below_all (counts_of rows).partitions (count_in_range k) each-count in
-    let rooms = below_all (counts_of rows).partitions (room_for rows k) each-room in
+    let cpus = below_all (counts_of rows).cpus (cpu_in_range rows k) each_cpu in
+    let counts = below_all (counts_of rows).partitions (count_in_range k) each_count in
+    let rooms = below_all (counts_of rows).partitions (room_for rows k) each_room in
     simp (lt-ltb _ _ s.major, lt-ltb _ _ s.next, cpus, counts, rooms)
   where
-    each-cpu : (c : ℕ) → c < (counts_of rows).cpus → cpu_in_range rows k c ≡ true
-    each-cpu c l = cpu_in rows k c (s.minor c l) (s.left c l)
+    each_cpu : (c : ℕ) → c < (counts_of rows).cpus → cpu_in_range rows k c ≡ true
+    each_cpu c l = cpu_in rows k c (s.minor c l) (s.left c l)
 
-    each-count : (q : ℕ) → q < (counts_of rows).partitions → count_in_range k q ≡ true
-    each-count q l = let a = s.room q l in count_in k q (omega arith) (s.last q l)
+    each_count : (q : ℕ) → q < (counts_of rows).partitions → count_in_range k q ≡ true
+    each_count q l = let a = s.room q l in count_in k q (omega arith) (s.last q l)
 
-    each-room : (q : ℕ) → q < (counts_of rows).partitions → room_for rows k q ≡ true
-    each-room q l = le-leb _ _ (s.room q l)
+    each_room : (q : ℕ) → q < (counts_of rows).partitions → room_for rows k q ≡ true
+    each_room q l = le-leb _ _ (s.room q l)
 
 -- ---- what of a clock it is about
 
@@ -105,10 +105,10 @@ lasting_fresh rows facts =
     (record {
       major = facts.counts.majors.0;
       next = facts.counts.majors.0;
-      minor = begun-minor rows facts (fresh_clock rows) b;
-      left = begun-left rows facts (fresh_clock rows) b;
+      minor = begun_minor rows facts (fresh_clock rows) b;
+      left = begun_left rows facts (fresh_clock rows) b;
       last = λ q l. let z = zeros 8 q in omega arith;
-      room = begun-room rows facts (fresh_clock rows) b;
+      room = begun_room rows facts (fresh_clock rows) b;
     })
 
 pub lasting_choose : (rows : List ℕ) (k : Clock) → lasting_clock rows k ≡ true
@@ -142,8 +142,8 @@ module _ (rows : List ℕ) (k : Clock) (s : Lasts rows k) (cpu : ℕ) (lc : cpu 
         other : (q : ℕ) → (cpu_of rows q ≡ cpu → ⊥) → one x q ≡ 0
         other q ne = cond_false (eqb x q) 1 0 (ne_eqb x q (λ e. ne (sym (ap (cpu_of rows) e) ∙ home)))
 
-    pub advanced-lasts : Lasts rows k'
-    advanced-lasts =
+    pub advanced_lasts : Lasts rows k'
+    advanced_lasts =
         record {
           major = subst (λ (m : ℕ). m < (counts_of rows).majors) (sym a.major) s.major;
           next = subst (λ (m : ℕ). m < (counts_of rows).majors) (sym a.next) s.next;
@@ -159,8 +159,8 @@ opened_lasts rows facts k s =
     record {
       major = b.major;
       next = opened_next rows k s.next;
-      minor = begun-minor rows facts (opened rows k) b;
-      left = begun-left rows facts (opened rows k) b;
+      minor = begun_minor rows facts (opened rows k) b;
+      left = begun_left rows facts (opened rows k) b;
       last = λ q l. let e = opened_last rows k q in let h = s.room q l in omega arith;
-      room = begun-room rows facts (opened rows k) b;
+      room = begun_room rows facts (opened rows k) b;
     }

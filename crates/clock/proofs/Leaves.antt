@@ -15,7 +15,7 @@ use Rattle.clock.specs.declared.time.Clock.{Clock}
 use Rattle.clock.specs.declared.time.Tick.{Tick}
 use Rattle.clock.specs.declared.time.Tick.TheVariants.{Wait, GoOn, Moved, Opened, Refused}
 use Rattle.clock.specs.Time.{no_cpu, cpu_at, current_partition, ticks_left, waiting, count_now, first, firsts, fresh_clock, with_cpu, one_less, less_left, moved, opened, all_finished, most_count, tick_of, chosen}
-use Rattle.clock.specs.Time.{charged as chargedClock, settled as settledClock}
+use Rattle.clock.specs.Time.{charged as charged_clock, settled as settled_clock}
 use Rattle.clock.specs.Lasting.{Formed}
 use Rattle.clock.specs.History.{waits, goes_on, opens, refuses}
 use Rattle.clock.specs.Keeps.{Leaves}
@@ -70,10 +70,10 @@ module _ (rows : List ℕ) (k : Clock) (cpu : ℕ) where
 
   -- the clock with another clock of this CPU, and one more for its partition
   abbrev replaced : CpuClock → Clock
-  replaced c' = with_cpu (chargedClock k (current_partition rows k cpu)) cpu c'
+  replaced c' = with_cpu (charged_clock k (current_partition rows k cpu)) cpu c'
 
   replaced_formed : (c' : CpuClock) → Formed k → Formed (replaced c')
-  unfolding with_cpu chargedClock
+  unfolding with_cpu charged_clock
   replaced_formed c' f =
       record {
         cpus = length-set k.cpus cpu c' ∙ f.cpus;
@@ -83,7 +83,7 @@ module _ (rows : List ℕ) (k : Clock) (cpu : ℕ) where
 
   within : (c' : CpuClock) (w : Tick) → waiting k cpu ≡ false → waits w ≡ false → opens w ≡ false → refuses w ≡ false
       → (goes_on w ≡ true → (1 < ticks_left k cpu) × (c' ≡ one_less (cpu_at k cpu))) → Leaves rows k cpu (record { clock = replaced c'; what = w })
-  unfolding with_cpu chargedClock cpu_at
+  unfolding with_cpu charged_clock cpu_at
   within c' w busy runs shut taken mid =
       record {
         formed = replaced_formed c';
@@ -101,7 +101,7 @@ module _ (rows : List ℕ) (k : Clock) (cpu : ℕ) where
       }
 
   opening : (c' : CpuClock) → waiting k cpu ≡ false → Leaves rows k cpu (record { clock = opened rows (replaced c'); what = Opened })
-  unfolding opened with_cpu chargedClock cpu_at
+  unfolding opened with_cpu charged_clock cpu_at
   opening c' busy =
       record {
         formed = λ f. formed_opened rows (replaced c') (replaced_formed c' f);
@@ -119,17 +119,17 @@ module _ (rows : List ℕ) (k : Clock) (cpu : ℕ) where
       }
 
   on : waiting k cpu ≡ false → ltb 1 (ticks_left k cpu) ≡ true
-      → Leaves rows k cpu (record { clock = less_left (chargedClock k (current_partition rows k cpu)) cpu; what = GoOn })
-  unfolding less_left chargedClock cpu_at
+      → Leaves rows k cpu (record { clock = less_left (charged_clock k (current_partition rows k cpu)) cpu; what = GoOn })
+  unfolding less_left charged_clock cpu_at
   on busy t = within (one_less (cpu_at k cpu)) GoOn busy refl refl refl (λ h. (ltb-true _ _ t, refl))
 
-  settles : waiting k cpu ≡ false → (c' : CpuClock) → Leaves rows k cpu (settledClock rows (replaced c'))
-  unfolding settledClock
+  settles : waiting k cpu ≡ false → (c' : CpuClock) → Leaves rows k cpu (settled_clock rows (replaced c'))
+  unfolding settled_clock
   settles busy c' =
       by_cond (Leaves rows k cpu) (all_finished rows (replaced c')) _ _ (λ t. opening c' busy)
       (λ f. within c' Moved busy refl refl refl (λ h. absurd (false≢true h)))
 
-  over : waiting k cpu ≡ false → Leaves rows k cpu (settledClock rows (moved rows (chargedClock k (current_partition rows k cpu)) cpu))
+  over : waiting k cpu ≡ false → Leaves rows k cpu (settled_clock rows (moved rows (charged_clock k (current_partition rows k cpu)) cpu))
   unfolding moved
   over busy = settles busy _
 

@@ -22,10 +22,10 @@ pub record Place (l : List ℕ) (d x : ℕ) (r : List ℕ) : Type 0 where
 
 -- an empty list is no list with a head
 no_head : (x : ℕ) (r : List ℕ) → [] ≡ x ∷ r → ⊥
-no_head x r e = suc-ne (ap length e)
+no_head x r e = suc_ne (ap length e)
   where
-    suc-ne : 0 ≡ suc (length r) → ⊥
-    suc-ne h = omega arith
+    suc_ne : 0 ≡ suc (length r) → ⊥
+    suc_ne h = omega arith
 
 pub place_of : (l : List ℕ) (d x : ℕ) (r : List ℕ) → drop d l ≡ x ∷ r → Place l d x r
 unfolding occurs

@@ -70,9 +70,9 @@ module _ (rows : List ℕ) (k : Clock) (l : Ledger) (i : Keeps rows k l) where
     unfolding waiting ticks_left laid
     waits w = at_end_lem _ (l.done c) (i.within c lc) (ahead ∙ ap laid (idle rows k.major c (cpu_at k c) (eqb-true _ _ w)))
 
-    pub full-waits : full (plan_of rows) l c ≡ waiting k c
+    pub full_waits : full (plan_of rows) l c ≡ waiting k c
     unfolding full
-    full-waits = go (waiting k c) refl
+    full_waits = go (waiting k c) refl
       where
         go : (b : Bool) → waiting k c ≡ b → eqb (l.done c) (length (layout (plan_of rows) l.major c)) ≡ waiting k c
         go true w = eq-eqb _ _ (waits w) ∙ sym w
@@ -83,19 +83,19 @@ module _ (rows : List ℕ) (k : Clock) (l : Ledger) (i : Keeps rows k l) where
 
   pub all_same : all_full (plan_of rows) l ≡ all_finished rows k
   unfolding all_full all_finished finished plan_of
-  all_same = below_same (counts_of rows).cpus (full (plan_of rows) l) (finished k) (λ c lc. full-waits c lc)
+  all_same = below_same (counts_of rows).cpus (full (plan_of rows) l) (finished k) (λ c lc. full_waits c lc)
 
   module _ (facts : Facts rows) where
-    major-known : l.major < (counts_of rows).majors
-    major-known = subst (λ (m : ℕ). m < (counts_of rows).majors) i.major i.majors
+    major_known : l.major < (counts_of rows).majors
+    major_known = subst (λ (m : ℕ). m < (counts_of rows).majors) i.major i.majors
 
     -- a partition is in no layout of another CPU
-    elsewhere-none : (q c : ℕ) → c < (counts_of rows).cpus → (c ≡ cpu_of rows q → ⊥) → occurs q (take (l.done c) (layout (plan_of rows) l.major c)) ≡ 0
+    elsewhere_none : (q c : ℕ) → c < (counts_of rows).cpus → (c ≡ cpu_of rows q → ⊥) → occurs q (take (l.done c) (layout (plan_of rows) l.major c)) ≡ 0
     unfolding layout plan_of
-    elsewhere-none q c lc ne =
+    elsewhere_none q c lc ne =
         let a = occurs_split q (l.done c) (laid (minors_of rows l.major c)) in
         let b = occurs_laid q (minors_of rows l.major c) in
-        let d = minors_none rows facts l.major c q major-known lc ne in
+        let d = minors_none rows facts l.major c q major_known lc ne in
         omega arith
 
     room : (q : ℕ) → q < (counts_of rows).partitions → count_now k q + planned q (rest_of rows k (cpu_of rows q)) ≤ most_count
@@ -103,12 +103,12 @@ module _ (rows : List ℕ) (k : Clock) (l : Ledger) (i : Keeps rows k l) where
     room q lq =
         let lc = facts.partition_cpu q lq in
         let a = i.count q in
-        let b = sum_one (λ c. occurs q (take (l.done c) (laid (minors_of rows l.major c)))) (cpu_of rows q) (counts_of rows).cpus (elsewhere-none q) in
+        let b = sum_one (λ c. occurs q (take (l.done c) (laid (minors_of rows l.major c)))) (cpu_of rows q) (counts_of rows).cpus (elsewhere_none q) in
         let d = occurs_split q (l.done (cpu_of rows q)) (laid (minors_of rows l.major (cpu_of rows q))) in
         let e = ap (occurs q) (i.place (cpu_of rows q) lc) in
         let f = occurs_laid q (rest_of rows k (cpu_of rows q)) in
         let g = occurs_laid q (minors_of rows l.major (cpu_of rows q)) in
-        let h = minors_le rows facts l.major (cpu_of rows q) q major-known lc in
+        let h = minors_le rows facts l.major (cpu_of rows q) q major_known lc in
         omega arith
 
     pub ready : Ready rows k

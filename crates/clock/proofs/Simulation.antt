@@ -20,7 +20,7 @@ use Rattle.clock.proofs.Choices.{cond_true, cond_false}
 use Rattle.clock.proofs.Lists.{Place, place_of}
 use Rattle.clock.proofs.Advance.{Advanced}
 use Rattle.clock.proofs.Leaves.{formed_fresh, formed_choose, formed_opened}
-use Rattle.clock.proofs.Begun.{Begun, zeros, fresh_begun, opened_begun, begun-rest, begun-minor}
+use Rattle.clock.proofs.Begun.{Begun, zeros, fresh_begun, opened_begun, begun_rest, begun_minor}
 use Rattle.clock.proofs.Carried.{carried_minor, carried_rest, carried_last}
 use Rattle.clock.proofs.Lasts.{opened_last}
 use Rattle.clock.proofs.Relation.{counted_more, counted_none}
@@ -37,9 +37,9 @@ begun_keeps rows facts k b f l major next nexts none last =
       next = next;
       majors = b.major;
       nexts = nexts;
-      minor = begun-minor rows facts k b;
+      minor = begun_minor rows facts k b;
       place = λ c lc. ap (λ (n : ℕ). drop n (laid (minors_of rows l.major c))) (none c)
-          ∙ (ap (λ (m : ℕ). laid (minors_of rows m c)) (sym major) ∙ ap laid (sym (begun-rest rows facts k b c lc)));
+          ∙ (ap (λ (m : ℕ). laid (minors_of rows m c)) (sym major) ∙ ap laid (sym (begun_rest rows facts k b c lc)));
       within = λ c lc. let e = none c in omega arith;
       count = λ q. b.none q ∙ sym (counted_none (plan_of rows) l none q);
       last = last;

@@ -21,7 +21,7 @@ use Rattle.clock.specs.Keeps.{Keeps, Charges, TickKeeps, plan_next}
 use Rattle.clock.proofs.Choices.{cond_true, cond_false}
 use Rattle.clock.proofs.Advance.{Ran, part_known, part_home, ran}
 use Rattle.clock.proofs.Leaves.{tick_waits}
-use Rattle.clock.proofs.Relation.{counted_none, full_at, full-waits, all_same, ready}
+use Rattle.clock.proofs.Relation.{counted_none, full_at, full_waits, all_same, ready}
 use Rattle.clock.proofs.Simulation.{here, more, advanced_keeps, opened_keeps, counted_closed}
 
 -- the frame is settled by clock and ledger alike
@@ -67,7 +67,7 @@ module _ (rows : List ℕ) (facts : Facts rows) (k : Clock) (l : Ledger) (i : Ke
   idle : waiting k cpu ≡ true → TickKeeps rows k l cpu (record { clock = k; what = Wait })
   unfolding booked
   idle w =
-      let e = full-waits rows k l i cpu lc ∙ w in
+      let e = full_waits rows k l i cpu lc ∙ w in
       let same = cond_true (full (plan_of rows) l cpu) l (settled (plan_of rows) (add_one l cpu)) e in
       record {
         keeps = subst (Keeps rows k) (sym same) i;
@@ -118,13 +118,13 @@ module _ (rows : List ℕ) (facts : Facts rows) (k : Clock) (l : Ledger) (i : Ke
           all = λ o c h. full_at (plan_of rows) (add_one l cpu) (sym s.opened ∙ o) c h;
         }
 
-    planned-here : plan_next rows l cpu ≡ current_partition rows k cpu
-    planned-here = (here rows k l i cpu lc (current_partition rows k cpu) r.after r.advanced).here
+    planned_here : plan_next rows l cpu ≡ current_partition rows k cpu
+    planned_here = (here rows k l i cpu lc (current_partition rows k cpu) r.after r.advanced).here
 
     busy : TickKeeps rows k l cpu (tick_of rows k cpu)
     unfolding booked
     busy =
-        let e = full-waits rows k l i cpu lc ∙ b in
+        let e = full_waits rows k l i cpu lc ∙ b in
         let same = cond_false (full (plan_of rows) l cpu) l (settled (plan_of rows) (add_one l cpu)) e in
         record {
           keeps = subst (Keeps rows (tick_of rows k cpu).clock) (sym same) s.keeps;
@@ -132,7 +132,7 @@ module _ (rows : List ℕ) (facts : Facts rows) (k : Clock) (l : Ledger) (i : Ke
           waits_if_full = s.runs ∙ sym e;
           still = λ h. absurd (true≢false (sym h ∙ e));
           frames = ap (λ (y : Ledger). length y.finished) same ∙ frames (opens (tick_of rows k cpu).what) s.opened;
-          charges = λ h. subst (λ (y : ℕ). Charges rows k l cpu y (tick_of rows k cpu)) (sym planned-here) charge;
+          charges = λ h. subst (λ (y : ℕ). Charges rows k l cpu y (tick_of rows k cpu)) (sym planned_here) charge;
         }
       where
         frames : (o : Bool) → o ≡ all_full (plan_of rows) (add_one l cpu) → length (settled (plan_of rows) (add_one l cpu)).finished ≡ length l.finished + cond o 1 0

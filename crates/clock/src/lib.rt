@@ -1,4 +1,6 @@
 // Plan time: majors, minor frames, ticks left, counts. Nothing of groups and subjects.
+#![tactic(auto)]
+
 ghost use Rattle.clock.specs.Lawful.{Lawful};
 
 pub mod range; // the part of refusal 80 that speaks of plan time

@@ -9,14 +9,14 @@ pub const CPUS: u8 = 4;
 
 pub const PARTITIONS: u8 = 8;
 
-#[derive(Drop)]
+#[derive(Clone, Copy, Drop)]
 pub struct CpuClock {
     pub minor: u8,
     // 0: waiting.
     pub left: u16,
 }
 
-#[derive(Drop)]
+#[derive(Clone, Copy, Drop)]
 pub struct Clock {
     pub major: u8,
     pub next: u8,
@@ -27,7 +27,7 @@ pub struct Clock {
 }
 
 // What a tick has come to.
-#[derive(Drop)]
+#[derive(Clone, Copy, Drop)]
 pub enum Tick {
     Wait,
     // Mid-frame.
@@ -40,7 +40,7 @@ pub enum Tick {
     Refused,
 }
 
-#[derive(Drop)]
+#[derive(Clone, Copy, Drop)]
 pub struct Ticked {
     pub clock: Clock,
     pub what: Tick,

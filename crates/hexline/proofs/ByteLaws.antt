@@ -128,10 +128,10 @@ is_read : (text : List ℕ) → Read text (line_of text)
 unfolding Read line_of well_formed byte_at
 is_read text =
     by_cond (Read text) (eqb (line_length text) (length text)) _ _ (λ e. tt)
-    (λ e. by_cond (Read text) (well_formed (take (line_length text) text)) _ _ (λ w. whole-line (eqb-false _ _ e) w) (λ w. tt))
+    (λ e. by_cond (Read text) (well_formed (take (line_length text) text)) _ _ (λ w. whole_line (eqb-false _ _ e) w) (λ w. tt))
   where
-    whole-line : (line_length text ≡ length text → ⊥) → well_formed (take (line_length text) text) ≡ true → WholeLine text (line_length text / 2) (suc (line_length text))
-    whole-line d w =
+    whole_line : (line_length text ≡ length text → ⊥) → well_formed (take (line_length text) text) ≡ true → WholeLine text (line_length text / 2) (suc (line_length text))
+    whole_line d w =
         let within : line_length text < length text = omega (arith, line_le text) in
         let long = length-take-le (line_length text) text (omega arith) in
         let w₁ = both (not (eqb (length (take (line_length text) text)) 0)) (eqb (length (take (line_length text) text) % 2) 0 && all_digits (take (line_length text) text)) w in

@@ -15,11 +15,11 @@ neither false b = refl
 pub both : (a b : Bool) → (a && b) ≡ true → (a ≡ true) × (b ≡ true)
 both true true e = (refl, refl)
 both true false e = (refl, e)
-both false b e = (e, absurd-of b e)
+both false b e = (e, absurd_of b e)
   where
-    absurd-of : (c : Bool) → false ≡ true → c ≡ true
-    absurd-of true q = refl
-    absurd-of false q = q
+    absurd_of : (c : Bool) → false ≡ true → c ≡ true
+    absurd_of true q = refl
+    absurd_of false q = q
 
 -- two tests that hold together are equal
 pub same_test : (a b : Bool) → (a ≡ true → b ≡ true) → (b ≡ true → a ≡ true) → a ≡ b

@@ -1,4 +1,6 @@
 // Lines of upper-case hexadecimal, two digits a byte, each ended by one newline. Knows of no policy and no call.
+#![tactic(auto)]
+
 ghost use Rattle.hexline.specs.Lawful.{Lawful};
 
 // A digit's value, and a value's digit.

@@ -5,7 +5,7 @@ ghost use Rattle.hexline.specs.Run.{run_of};
 
 use crate::digit::{NEWLINE, NO_DIGIT, digit};
 
-#[derive(Drop)]
+#[derive(Clone, Copy, Drop)]
 pub enum Line {
     // A well-formed line: how many bytes it has, and where it ends, past its newline.
     Whole { bytes: usize, end: usize },

@@ -189,11 +189,11 @@ side_more line x lines said q s =
 
 side_none : Side [] []
 unfolding row_behind
-side_none = record { many = refl; each = λ i. no_frame_lem ∙ none-there i }
+side_none = record { many = refl; each = λ i. no_frame_lem ∙ none_there i }
   where
-    none-there : (i : ℕ) → no_frame ≡ get_or [] i no_frame
-    none-there zero = refl
-    none-there (suc i) = refl
+    none_there : (i : ℕ) → no_frame ≡ get_or [] i no_frame
+    none_there zero = refl
+    none_there (suc i) = refl
 
 side_frame : (m c : ℕ) (f : FrameLine) (e : List Record) → frame_in (frame_row (bytes_of (Frame f))) ≡ frame_from f → Side (frames_of m c e) (minors_in m c e) → Side (frames_of m c (Frame f ∷ e)) (minors_in m c (Frame f ∷ e))
 unfolding frames_of minors_in kind_of bytes_of

@@ -28,7 +28,7 @@ use Rattle.meaning.proofs.Laid.{Laid, laid}
 use Rattle.meaning.proofs.KeyedLaws.{held, given_exactly, row_for, tells}
 use Rattle.meaning.proofs.KeptKinds.{header_key, header_may, header_place, header_built, kept_header, partition_may, partition_place, kept_partition, group_may, group_place, kept_group, subject_may, subject_place, kept_subject, event_may, event_place, event_built, kept_event, trap_may, trap_place, trap_built, kept_trap, target_may, target_place, target_built, kept_target, route_may, route_place, route_built, kept_route}
 use Rattle.meaning.proofs.Spoken.{read, fits_among, route_spoken, target_spoken, event_spoken, trap_spoken}
-use Rattle.meaning.proofs.Whole.{route_back, route_back_lem, trap_back, trap_back, target_back, target_back_lem, event_back, event_back_lem}
+use Rattle.meaning.proofs.Whole.{route_back, route_back_lem, trap_back, trap_back_lem, target_back, target_back_lem, event_back, event_back_lem}
 use Rattle.meaning.proofs.FrameLaws.{tells_frames}
 
 module _ (e : List Record) (f : Fair e) (l : Laid e) where
@@ -82,7 +82,7 @@ module _ (e : List Record) (f : Fair e) (l : Laid e) where
   unfolding trap_event trap_row row_for
   traps =
       tells Trap trap_key trap_may trap_place trap_built kept_trap e f l (λ t. t.event) (λ k. default_event (table_of e) k.0) (λ k. trap_event (table_of e) k.0 k.1)
-      (λ k. refl) trap_own trap_back (λ d g t h. trap_back t)
+      (λ k. refl) trap_own trap_back (λ d g t h. trap_back_lem t)
 
   targets : Tells Target target_key target_from (λ k. Nothing) (λ k. target_event (table_of e) k.0 k.1) e
   unfolding target_event target_row row_for

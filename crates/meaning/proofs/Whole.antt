@@ -56,9 +56,9 @@ route_back_lem w = rw (masking_back w.irq)
 pub trap_back : ℕ × ℕ → ℕ → TrapLine
 trap_back k event = record { subject = k.0; trap = k.1; event = event }
 
-pub trap_back : (t : TrapLine) → trap_back (trap_key t) t.event ≡ t
+pub trap_back_lem : (t : TrapLine) → trap_back (trap_key t) t.event ≡ t
 unfolding trap_back
-trap_back t = refl
+trap_back_lem t = refl
 
 -- ---- 08
 

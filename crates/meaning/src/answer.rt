@@ -1,22 +1,22 @@
 // What a lookup yields. Host vector, subject vector and IRQ line are numbered separately and never stand for one another.
-#[derive(Drop)]
+#[derive(Clone, Copy, Drop)]
 pub struct HostVector(pub u8);
 
-#[derive(Drop)]
+#[derive(Clone, Copy, Drop)]
 pub struct SubjectVector(pub u8);
 
-#[derive(Drop)]
+#[derive(Clone, Copy, Drop)]
 pub struct IrqLine(pub u8);
 
 // The IRQ line that an interrupt masks, if it has one.
-#[derive(Drop)]
+#[derive(Clone, Copy, Drop)]
 pub enum Masking {
     NoLine,
     Line(IrqLine),
 }
 
 // Where a host vector goes.
-#[derive(Drop)]
+#[derive(Clone, Copy, Drop)]
 pub enum Route {
     Nowhere,
     To {
@@ -26,7 +26,7 @@ pub enum Route {
     },
 }
 
-#[derive(Drop)]
+#[derive(Clone, Copy, Drop)]
 pub enum Action {
     Nothing,
     Sleep,
@@ -40,26 +40,26 @@ pub enum Action {
 }
 
 // The target event, if there is one.
-#[derive(Drop)]
+#[derive(Clone, Copy, Drop)]
 pub enum Signal {
     Nothing,
     To { subject: u8, event: u8, kick: bool },
 }
 
-#[derive(Drop)]
+#[derive(Clone, Copy, Drop)]
 pub struct SourceEvent {
     pub action: Action,
     pub signal: Signal,
 }
 
-#[derive(Drop)]
+#[derive(Clone, Copy, Drop)]
 pub enum TargetAction {
     Nothing,
     Inject(SubjectVector),
     Reset,
 }
 
-#[derive(Drop)]
+#[derive(Clone, Copy, Drop)]
 pub struct Frame {
     pub partition: u8,
     pub length: u16,

@@ -1,4 +1,6 @@
 // What a policy says, as the scheduler asks: typed lookups of its table. Each says exactly what a line of the text says.
+#![tactic(auto)]
+
 ghost use Rattle.meaning.specs.Means.{Lawful};
 
 pub mod answer; // what a lookup yields: vectors, IRQ lines, routes, events, minor frames

@@ -104,9 +104,9 @@ module _ (given rows : List ℕ) (kind next lines i : ℕ) (g : Knowing given ro
 
   module _ (l : i < row_count) where
     -- a place without a line
-    pub knowing-skip : get_or given i 0 ≡ 0 → Knowing given rows kind next lines (i + 1)
+    pub knowing_skip : get_or given i 0 ≡ 0 → Knowing given rows kind next lines (i + 1)
     unfolding lines_below
-    knowing-skip q =
+    knowing_skip q =
         rw (add-one i)
         (record {
           earlier = g.earlier;
@@ -121,16 +121,16 @@ module _ (given rows : List ℕ) (kind next lines i : ℕ) (g : Knowing given ro
       unfolding judge_all
       rest_is = g.rest ∙ ap (judge_all g.earlier) (left_step given i l ∙ ap (λ (x : List Record). x ++ left given (suc i)) (line_one given i d))
 
-      pub knowing-refused : (why : Refusal) → verdict g.earlier (record_at i (get_or given i 0)) ≡ Refused why → known_rows given ≡ false
+      pub knowing_refused : (why : Refusal) → verdict g.earlier (record_at i (get_or given i 0)) ≡ Refused why → known_rows given ≡ false
       unfolding onward
-      knowing-refused why v =
+      knowing_refused why v =
           known_by given ∙ ap (λ (x : Reading). gives x (record { rows = given })) (rest_is ∙ rw v) ∙ refused_gives why (record { rows = given })
 
-      pub knowing-on : verdict g.earlier (record_at i (get_or given i 0)) ≡ Accepted
+      pub knowing_on : verdict g.earlier (record_at i (get_or given i 0)) ≡ Accepted
           → Knowing given (set rows (place_of next (record_at i (get_or given i 0))) (row_of (record_at i (get_or given i 0)))) (kind_of (record_at i (get_or given i 0)))
           (place_of next (record_at i (get_or given i 0)) + 1) (lines + 1) (i + 1)
       unfolding onward lines_below
-      knowing-on v =
+      knowing_on v =
           let more : length (lines_below given i ++ line_at given i) ≡ length (lines_below given i) + 1 =
           ap (λ (x : List Record). length (lines_below given i ++ x)) (line_one given i d) ∙ length-append (lines_below given i) (record_at i (get_or given i 0) ∷ []) in
           rw (add-one i)
@@ -157,9 +157,9 @@ module _ (given rows : List ℕ) (kind next lines i : ℕ) (g : Knowing given ro
     end_refused why v =
         known_by given ∙ ap (λ (x : Reading). gives x (record { rows = given })) (ended ∙ rw v) ∙ refused_gives why (record { rows = given })
 
-    pub end-accepted : verdict g.earlier (End lines) ≡ Accepted → known_rows given ≡ same_numbers rows given
+    pub end_accepted : verdict g.earlier (End lines) ≡ Accepted → known_rows given ≡ same_numbers rows given
     unfolding onward judge_all at_end policy_of gives acceptance last_kind kind_of
-    end-accepted v =
+    end_accepted v =
         let q : judge_all [] (all_lines given) ≡ record { verdict = Accepted; policy = record { rows = table_of (End lines ∷ g.earlier) } } = ended ∙ rw v in
         known_by given
         ∙ ap (λ (x : Reading). gives x (record { rows = given })) q

@@ -116,18 +116,18 @@ module _ (text rows : List ℕ) (kind next lines at : ℕ) (g : Going text rows 
     some_left : 0 < length (drop at text)
     some_left = omega (arith, length-drop at text)
 
-    pub going-no-record : (line : RecordLine) → record_line (drop at text) ≡ line → ((r : Record) (end : ℕ) → line ≡ Got r end → ⊥) → read_of text ≡ no_record line (lines + 1)
-    going-no-record (Got r end) q d = absurd (d r end refl)
-    going-no-record IllFormedLine q d = g.left ∙ judge_ill_formed g.earlier (drop at text) some_left q ∙ ap (no_record IllFormedLine) line_number
-    going-no-record WrongKindLine q d = g.left ∙ judge_wrong_kind g.earlier (drop at text) some_left q ∙ ap (no_record WrongKindLine) line_number
+    pub going_no_record : (line : RecordLine) → record_line (drop at text) ≡ line → ((r : Record) (end : ℕ) → line ≡ Got r end → ⊥) → read_of text ≡ no_record line (lines + 1)
+    going_no_record (Got r end) q d = absurd (d r end refl)
+    going_no_record IllFormedLine q d = g.left ∙ judge_ill_formed g.earlier (drop at text) some_left q ∙ ap (no_record IllFormedLine) line_number
+    going_no_record WrongKindLine q d = g.left ∙ judge_wrong_kind g.earlier (drop at text) some_left q ∙ ap (no_record WrongKindLine) line_number
 
-    going-got : (r : Record) (end : ℕ) → record_line (drop at text) ≡ Got r end
+    going_got : (r : Record) (end : ℕ) → record_line (drop at text) ≡ Got r end
         → read_of text ≡ onward (verdict g.earlier r) (judge (r ∷ g.earlier) (lines_of (drop end (drop at text))))
-    going-got r end q = g.left ∙ judge_got g.earlier (drop at text) some_left r end q
+    going_got r end q = g.left ∙ judge_got g.earlier (drop at text) some_left r end q
 
-    pub going-refused : (r : Record) (end : ℕ) (why : Refusal) → record_line (drop at text) ≡ Got r end → verdict g.earlier r ≡ Refused why → read_of text ≡ refusal why
+    pub going_refused : (r : Record) (end : ℕ) (why : Refusal) → record_line (drop at text) ≡ Got r end → verdict g.earlier r ≡ Refused why → read_of text ≡ refusal why
     unfolding onward
-    going-refused r end why q v = going-got r end q ∙ rw v
+    going_refused r end why q v = going_got r end q ∙ rw v
 
     -- one line more
     pub going_on : (r : Record) (end : ℕ) → record_line (drop at text) ≡ Got r end → verdict g.earlier r ≡ Accepted
@@ -140,24 +140,24 @@ module _ (text rows : List ℕ) (kind next lines at : ℕ) (g : Going text rows 
           tied = tied_put rows kind next lines g.earlier g.tied r v;
           within = omega (arith, w.within, length-drop at text, g.within);
           counted = omega (arith, w.some, g.counted);
-          left = going-got r end q ∙ rw v (ap (λ (s : List ℕ). judge (r ∷ g.earlier) (lines_of s)) (drop-drop end at text));
+          left = going_got r end q ∙ rw v (ap (λ (s : List ℕ). judge (r ∷ g.earlier) (lines_of s)) (drop-drop end at text));
         }
 
-    pub going-place : (r : Record) → verdict g.earlier r ≡ Accepted → place_of next r ≤ row_count
-    going-place r v = rw g.tied.next (place_within g.earlier r g.tied.fair v)
+    pub going_place : (r : Record) → verdict g.earlier r ≡ Accepted → place_of next r ≤ row_count
+    going_place r v = rw g.tied.next (place_within g.earlier r g.tied.fair v)
 
   module _ (l : length text ≤ at) where
     going_end : read_of text ≡ at_end g.earlier
     going_end = g.left ∙ judge_end g.earlier (drop at text) (omega (arith, length-drop at text))
 
-    pub end-accepted : kind ≡ 10 → read_of text ≡ acceptance (record { rows = rows })
+    pub end_accepted : kind ≡ 10 → read_of text ≡ acceptance (record { rows = rows })
     unfolding at_end policy_of
-    end-accepted k =
+    end_accepted k =
         let q : last_kind g.earlier ≡ 10 = sym g.tied.kind ∙ k in
         going_end ∙ rw (eq-eqb (last_kind g.earlier) 10 q) (ap (λ (t : List ℕ). acceptance (record { rows = t })) (sym (tied_table rows kind next lines g.earlier g.tied)))
 
-    pub end-missing : (kind ≡ 10 → ⊥) → read_of text ≡ refusal (WrongKind (lines + 1))
+    pub end_missing : (kind ≡ 10 → ⊥) → read_of text ≡ refusal (WrongKind (lines + 1))
     unfolding at_end
-    end-missing h =
+    end_missing h =
         let q : last_kind g.earlier ≡ 10 → ⊥ = λ z. h (g.tied.kind ∙ z) in
         going_end ∙ rw (ne_eqb (last_kind g.earlier) 10 q) (ap (λ (n : ℕ). refusal (WrongKind n)) line_number)

@@ -1,4 +1,6 @@
 // The policy text of document 01: a text read, a policy written, and whether some accepted text gives a policy.
+#![tactic(auto)]
+
 ghost use Rattle.policy.specs.Lawful.{Lawful};
 
 pub mod own_text; // whether some accepted text gives a policy

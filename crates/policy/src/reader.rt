@@ -10,7 +10,7 @@ use rules::{END, Progress, Refusal, Verdict, verdict_of};
 const LONGEST_TEXT: usize = 32768;
 
 // The verdict, and beside it the policy: all zeros where the text is refused.
-#[derive(Drop)]
+#[derive(Clone, Copy, Drop)]
 pub struct Reading {
     pub verdict: Verdict,
     pub policy: Policy,

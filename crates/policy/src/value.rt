@@ -2,7 +2,7 @@
 ghost use Rattle.std.specs.Prelude.{◌≡◌};
 ghost use Rattle.policy.specs.Reads.{zero_policy};
 
-#[derive(Drop)]
+#[derive(Clone, Copy, Drop)]
 pub struct Policy {
     pub rows: [u64; 2153],
 }

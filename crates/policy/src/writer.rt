@@ -11,7 +11,7 @@ use records::{Record, put_record, record_size};
 use rows::{ROWS, record_at, row_at};
 use rules::Refusal;
 
-#[derive(Drop)]
+#[derive(Clone, Copy, Drop)]
 pub enum Writing {
     // The length of the text.
     Wrote(usize),
@@ -19,7 +19,7 @@ pub enum Writing {
 }
 
 // How many lines a table has, and how many bytes they take.
-#[derive(Drop)]
+#[derive(Clone, Copy, Drop)]
 pub struct Size {
     pub lines: u16,
     pub bytes: usize,

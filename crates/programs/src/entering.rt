@@ -8,21 +8,21 @@ use bits::Highest;
 use meaning::{SubjectVector, TargetAction, target_event};
 
 // The subject after its event was taken, and whether that was a reset.
-#[derive(Drop)]
+#[derive(Clone, Copy, Drop)]
 pub struct Taken {
     pub subject: Subject,
     pub reset: bool,
 }
 
 // The subject after its vector was taken, and which that was.
-#[derive(Drop)]
+#[derive(Clone, Copy, Drop)]
 pub struct Injection {
     pub subject: Subject,
     pub vector: Highest,
 }
 
 // The programs after an entry, whether the subject was reset, and the vector injected.
-#[derive(Drop)]
+#[derive(Clone, Copy, Drop)]
 pub struct Entering {
     pub programs: Programs,
     pub reset: bool,

@@ -2,7 +2,7 @@
 ghost use Rattle.std.specs.Prelude.{◌≡◌};
 ghost use Rattle.programs.specs.Records.{woken, asleep, handed_to};
 
-#[derive(Drop)]
+#[derive(Clone, Copy, Drop)]
 pub struct Group {
     pub awake: bool,
     pub active: u8,

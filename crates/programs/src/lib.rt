@@ -1,5 +1,7 @@
 // The makers' programs: groups and subjects, what is pending for them, which are active, and the masked IRQ lines. What events, interrupts
 // and entries do to them. Nothing of plan time, nor of who is entered.
+#![tactic(auto)]
+
 ghost use Rattle.programs.specs.Lawful.{Lawful};
 
 pub mod entering; // what an entry takes of a subject

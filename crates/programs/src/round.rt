@@ -6,7 +6,7 @@ use crate::whole::Programs;
 use rows::{counts_of, group_of, partition_of};
 
 // What the search finds.
-#[derive(Drop)]
+#[derive(Clone, Copy, Drop)]
 pub enum Found {
     Nobody,
     At(u8),

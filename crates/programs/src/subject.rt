@@ -5,7 +5,7 @@ ghost use Rattle.programs.specs.Records.{opened_to, event_marked, event_cleared,
 use bits::{Bits64, Bits256};
 use meaning::SubjectVector;
 
-#[derive(Drop)]
+#[derive(Clone, Copy, Drop)]
 pub struct Subject {
     pub open: bool,
     pub events: Bits64,

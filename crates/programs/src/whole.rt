@@ -13,7 +13,7 @@ const GROUPS: u8 = 16;
 
 const SUBJECTS: u8 = 16;
 
-#[derive(Drop)]
+#[derive(Clone, Copy, Drop)]
 pub struct Programs {
     // The active group of each partition.
     pub actives: [u8; 8],

@@ -23,7 +23,7 @@ pub(crate) const ROUTE: u8 = 9;
 
 pub(crate) const END: u8 = 10;
 
-#[derive(Drop)]
+#[derive(Clone, Copy, Drop)]
 pub struct Counts {
     pub cpus: u8,
     pub subjects: u8,
@@ -32,26 +32,26 @@ pub struct Counts {
     pub majors: u8,
 }
 
-#[derive(Drop)]
+#[derive(Clone, Copy, Drop)]
 pub struct PartitionLine {
     pub number: u8,
     pub cpu: u8,
 }
 
-#[derive(Drop)]
+#[derive(Clone, Copy, Drop)]
 pub struct GroupLine {
     pub number: u8,
     pub partition: u8,
 }
 
-#[derive(Drop)]
+#[derive(Clone, Copy, Drop)]
 pub struct SubjectLine {
     pub number: u8,
     pub group: u8,
     pub default_event: u8,
 }
 
-#[derive(Drop)]
+#[derive(Clone, Copy, Drop)]
 pub struct FrameLine {
     pub major: u8,
     pub cpu: u8,
@@ -59,7 +59,7 @@ pub struct FrameLine {
     pub length: u16,
 }
 
-#[derive(Drop)]
+#[derive(Clone, Copy, Drop)]
 pub struct EventLine {
     pub subject: u8,
     pub event: u8,
@@ -70,14 +70,14 @@ pub struct EventLine {
     pub kick: u8,
 }
 
-#[derive(Drop)]
+#[derive(Clone, Copy, Drop)]
 pub struct TrapLine {
     pub subject: u8,
     pub trap: u8,
     pub event: u8,
 }
 
-#[derive(Drop)]
+#[derive(Clone, Copy, Drop)]
 pub struct TargetLine {
     pub subject: u8,
     pub event: u8,
@@ -85,7 +85,7 @@ pub struct TargetLine {
     pub vector: u8,
 }
 
-#[derive(Drop)]
+#[derive(Clone, Copy, Drop)]
 pub struct RouteLine {
     pub host: u8,
     pub subject: u8,
@@ -93,7 +93,7 @@ pub struct RouteLine {
     pub irq: u8,
 }
 
-#[derive(Drop)]
+#[derive(Clone, Copy, Drop)]
 pub enum Record {
     Header(Counts),
     Partition(PartitionLine),

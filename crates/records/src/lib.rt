@@ -1,4 +1,6 @@
 // The ten kinds of policy line: a record read from a line, a record written as a line. Knows of no range and no order.
+#![tactic(auto)]
+
 ghost use Rattle.records.specs.Lawful.{Lawful};
 
 // The records, their kinds and sizes.

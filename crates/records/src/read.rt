@@ -11,7 +11,7 @@ use crate::kind::{
 use hexline::{Line, byte_at, number_at, read_line};
 
 // What a line of the text is.
-#[derive(Drop)]
+#[derive(Clone, Copy, Drop)]
 pub enum RecordLine {
     // A record, and where its line ends, past its newline.
     Got(Record, usize),

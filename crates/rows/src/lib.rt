@@ -1,5 +1,7 @@
 // The policy's table. It has a place for every line that a policy may have, in the order of the text, so that places rise
 // exactly as lines do; what stands there is the line's row, 0 where there is no such line.
+#![tactic(auto)]
+
 ghost use Rattle.rows.specs.Lawful.{Lawful};
 
 pub mod key_place;

@@ -152,10 +152,10 @@ unfolding Steady frames_of Short Fits bytes_of
 short_of [] s m c = tt
 short_of (r ∷ e) s m c =
     by_cond Short (eqb (kind_of r) 5 && (eqb (get_or (bytes_of r) 1 0) m && eqb (get_or (bytes_of r) 2 0) c)) _ _
-    (λ q. (fits-two r s.1.0 (eqb-true (kind_of r) 5 (both (eqb (kind_of r) 5) _ q).0), short_of e s.0 m c)) (λ q. short_of e s.0 m c)
+    (λ q. (fits_two r s.1.0 (eqb-true (kind_of r) 5 (both (eqb (kind_of r) 5) _ q).0), short_of e s.0 m c)) (λ q. short_of e s.0 m c)
   where
-    fits-two : (r : Record) → Fits r → kind_of r ≡ 5 → get_or (bytes_of r) 4 0 * 256 + get_or (bytes_of r) 5 0 < 65536
-    fits-two r f k = go (frame_or r)
+    fits_two : (r : Record) → Fits r → kind_of r ≡ 5 → get_or (bytes_of r) 4 0 * 256 + get_or (bytes_of r) 5 0 < 65536
+    fits_two r f k = go (frame_or r)
       where
         go : ((g : FrameLine) × (r ≡ Frame g)) ⊎ (kind_of r ≡ 5 → ⊥) → get_or (bytes_of r) 4 0 * 256 + get_or (bytes_of r) 5 0 < 65536
         go (inl (g, q)) = let l : Fits (Frame g) = rw q at f in rw q (omega arith)

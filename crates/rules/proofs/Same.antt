@@ -181,8 +181,8 @@ module _ (rows : List ℕ) (e : List Record) (t : Rowed rows e) (f : Fair e) (s 
   group_row : (n : ℕ) → n < 16 → get_or rows (groups_start + n) 0 ≡ byte_row (line_with 3 n e)
   group_row n l = t (groups_start + n) (omega arith) ∙ group_looked e p n l
 
-  subject_row : (n : ℕ) → n < 16 → get_or rows (subjects_start + n) 0 ≡ subject_row (line_with 4 n e)
-  subject_row n l = t (subjects_start + n) (omega arith) ∙ subject_looked e p n l
+  subject_row_lem : (n : ℕ) → n < 16 → get_or rows (subjects_start + n) 0 ≡ subject_row (line_with 4 n e)
+  subject_row_lem n l = t (subjects_start + n) (omega arith) ∙ subject_looked e p n l
 
   frame_row : (m c i : ℕ) → m < 4 → c < 4 → i < 8 → get_or rows (frames_place m c + i) 0 ≡ row_behind (frames_of m c e) i
   unfolding frames_place
@@ -197,11 +197,11 @@ module _ (rows : List ℕ) (e : List Record) (t : Rowed rows e) (f : Fair e) (s 
   period_same : (m c : ℕ) → m < 4 → c < 4 → period_by rows m c ≡ sum_of (frames_of m c e)
   period_same m c lm lc =
       eight_sum rows m c
-      ∙ sum_same 8 (length_at rows m c) (λ i. row_behind (frames_of m c e) i % 65536) (λ i l. length-row i l)
+      ∙ sum_same 8 (length_at rows m c) (λ i. row_behind (frames_of m c e) i % 65536) (λ i l. length_row i l)
       ∙ rows_sum (frames_of m c e) (counted_of e s m c lm lc).few (short_of e s m c)
     where
-      length-row : (i : ℕ) → i < 8 → length_at rows m c i ≡ row_behind (frames_of m c e) i % 65536
-      length-row i l = one_length rows m c i ∙ ap (λ (x : ℕ). x % 65536) (frame_row m c i lm lc l)
+      length_row : (i : ℕ) → i < 8 → length_at rows m c i ≡ row_behind (frames_of m c e) i % 65536
+      length_row i l = one_length rows m c i ∙ ap (λ (x : ℕ). x % 65536) (frame_row m c i lm lc l)
 
   pub same : Same (said_by rows) (said_in e)
   unfolding said_by said_in counts_of partition_given group_given subject_given given cpu_of partition_of group_of default_of
@@ -210,11 +210,11 @@ module _ (rows : List ℕ) (e : List Record) (t : Rowed rows e) (f : Fair e) (s 
         counts = ap counts_in (t 0 (omega arith)) ∙ header_said e p;
         partition_given = λ n l. ap (λ (x : ℕ). not (eqb x 0)) (partition_row n l) ∙ byte_given (line_with 2 n e);
         group_given = λ n l. ap (λ (x : ℕ). not (eqb x 0)) (group_row n l) ∙ byte_given (line_with 3 n e);
-        subject_given = λ n l. ap (λ (x : ℕ). not (eqb x 0)) (subject_row n l) ∙ subject_given_lem (line_with 4 n e);
+        subject_given = λ n l. ap (λ (x : ℕ). not (eqb x 0)) (subject_row_lem n l) ∙ subject_given_lem (line_with 4 n e);
         cpu_of = λ n l. ap (λ (x : ℕ). x % 256) (partition_row n l) ∙ byte_last (line_with 2 n e) (omega (arith, cpu_small e f n));
         partition_of = λ n l. ap (λ (x : ℕ). x % 256) (group_row n l) ∙ byte_last (line_with 3 n e) (omega (arith, partition_small e f n));
-        group_of = λ n l. ap (λ (x : ℕ). x / 256 % 256) (subject_row n l) ∙ subject_group (line_with 4 n e) (omega (arith, group_small e f n)) (omega (arith, default_small e f n));
-        default_of = λ n l. ap (λ (x : ℕ). x % 256) (subject_row n l) ∙ subject_default (line_with 4 n e) (omega (arith, default_small e f n));
+        group_of = λ n l. ap (λ (x : ℕ). x / 256 % 256) (subject_row_lem n l) ∙ subject_group (line_with 4 n e) (omega (arith, group_small e f n)) (omega (arith, default_small e f n));
+        default_of = λ n l. ap (λ (x : ℕ). x % 256) (subject_row_lem n l) ∙ subject_default (line_with 4 n e) (omega (arith, default_small e f n));
         framed = framed_same;
         period = period_same;
       }

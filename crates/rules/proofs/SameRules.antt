@@ -133,37 +133,37 @@ module _ (s t : Said) (h : Same s t) (b : Bounded t) where
         let f = both (leb e.action 7) _ d.1 in
         let g = both (leb e.irq 23 || eqb e.irq 255) _ f.1 in
         let k = both (ltb e.target t.counts.subjects || eqb e.target 255) _ g.1 in
-        let x : e.target < t.counts.subjects = ltb-true _ _ (or-first (ltb e.target t.counts.subjects) (eqb e.target 255) (not-true _ q) k.0) in
+        let x : e.target < t.counts.subjects = ltb-true _ _ (or_first (ltb e.target t.counts.subjects) (eqb e.target 255) (not-true _ q) k.0) in
         omega arith
       where
-        or-first : (u v : Bool) → v ≡ false → (u || v) ≡ true → u ≡ true
-        or-first true v z w = refl
-        or-first false v z w = sym z ∙ w ∙ refl
+        or_first : (u v : Bool) → v ≡ false → (u || v) ≡ true → u ≡ true
+        or_first true v z w = refl
+        or_first false v z w = sym z ∙ w ∙ refl
 
-    same-unknown : unknown_subject s e ≡ unknown_subject t e
+    same_unknown : unknown_subject s e ≡ unknown_subject t e
     unfolding unknown_subject
-    same-unknown =
+    same_unknown =
         ap₂ (λ (x : Bool) (y : Bool). not x || y) (h.subject_given e.subject source)
         (and_same (has_target e) _ _ (λ q. ap not (h.subject_given e.target (target q))))
 
-    same-handover : wrong_handover s e ≡ wrong_handover t e
+    same_handover : wrong_handover s e ≡ wrong_handover t e
     unfolding wrong_handover
-    same-handover =
+    same_handover =
         ap (λ (x : Bool). eqb e.action 3 && x)
         (or_same (not (has_target e)) _ _ (λ q.
         ap (λ (x : Bool). eqb e.target e.subject || not x)
         (ap₂ (λ (x : ℕ) (y : ℕ). eqb x y) (h.group_of e.target (target (not-false _ q))) (h.group_of e.subject source))))
 
-    same-kick : wrong_kick s e ≡ wrong_kick t e
+    same_kick : wrong_kick s e ≡ wrong_kick t e
     unfolding wrong_kick
-    same-kick =
+    same_kick =
         ap (λ (x : Bool). eqb e.kick 1 && x)
         (or_same (not (has_target e)) _ _ (λ q.
         ap₂ (λ (x : ℕ) (y : ℕ). eqb x y) (same_cpu e.target (target (not-false _ q))) (same_cpu e.subject source)))
 
-    same-event : event_misplaced s e ≡ event_misplaced t e
+    same_event : event_misplaced s e ≡ event_misplaced t e
     unfolding event_misplaced
-    same-event = rw (same-unknown, same-handover, same-kick)
+    same_event = rw (same_unknown, same_handover, same_kick)
 
   pub same_misplaced : (r : Record) → in_range t.counts r ≡ true → misplaced s r ≡ misplaced t r
   unfolding misplaced in_range group_in_range subject_in_range frame_in_range frame_misplaced trap_in_range trap_misplaced target_in_range route_in_range
@@ -184,7 +184,7 @@ module _ (s t : Said) (h : Same s t) (b : Bounded t) where
       let d = both (ltb f.cpu t.counts.cpus) _ a.1 in
       let x : f.partition < t.counts.partitions = ltb-true _ _ (both (ltb f.partition t.counts.partitions) _ d.1).0 in
       ap₂ (λ (y : Bool) (z : ℕ). not y || not (eqb z f.cpu)) (h.partition_given f.partition (omega arith)) (h.cpu_of f.partition (omega arith))
-  same_misplaced (Event e) r = same-event e r
+  same_misplaced (Event e) r = same_event e r
   same_misplaced (Trap n) r =
       let c = b.counts in
       let x : n.subject < t.counts.subjects = ltb-true _ _ (both (ltb n.subject t.counts.subjects) _ r).0 in

@@ -11,7 +11,7 @@ use records::{Record, kind_of};
 use rows::{counts_of, frames_place, place_of};
 
 // How far the reading has come: the kind of the last line, the place after it in the table, and how many lines were read.
-#[derive(Drop)]
+#[derive(Clone, Copy, Drop)]
 pub struct Progress {
     pub kind: u8,
     pub next: usize,

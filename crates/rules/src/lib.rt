@@ -1,4 +1,6 @@
 // The rules of document 01 for one line of a policy text: what it gets, by what the lines before it say.
+#![tactic(auto)]
+
 ghost use Rattle.rules.specs.Lawful.{Lawful};
 
 pub mod ends; // the rules at 0A: complete, and even

@@ -2,7 +2,7 @@
 ghost use Rattle.std.specs.Prelude.{◌≡◌};
 ghost use Rattle.rules.specs.Refusals.{number_of, line_of};
 
-#[derive(Drop)]
+#[derive(Clone, Copy, Drop)]
 pub enum Refusal {
     // P0: no accepted text gives the policy.
     NotAPolicy,
@@ -26,7 +26,7 @@ pub enum Refusal {
     NoRoom,
 }
 
-#[derive(Drop)]
+#[derive(Clone, Copy, Drop)]
 pub enum Verdict {
     Accepted,
     Refused(Refusal),

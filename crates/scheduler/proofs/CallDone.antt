@@ -78,22 +78,22 @@ module _ (rows : List ℕ) (facts : Facts rows) (h : Heard) (s : State) (f : For
   same_went = clock_went s.clock a.clock (λ c. same_clock rows c s.clock s.clock refl)
 
   module _ (cpu : ℕ) (made : Made h cpu) (l : cpu < (counts_of rows).cpus) where
-    done-went : (t : State) → Done rows cpu s t → ((c : ℕ) → c < (counts_of rows).cpus → Fits rows t c) → Went rows h s t
-    done-went t d fits =
+    done_went : (t : State) → Done rows cpu s t → ((c : ℕ) → c < (counts_of rows).cpus → Fits rows t c) → Went rows h s t
+    done_went t d fits =
         record {
           lasts = record { clock = d.ready.clock; programs = d.ready.programs; entered = fits };
           still = still_of rows h cpu made s t d.elsewhere.programs;
           wakes = d.wakes;
         }
 
-    flag-done : (flag : ℕ) → Done rows cpu s (flag_stored s cpu flag)
-    flag-done flag = stored_done rows cpu s r (entered_home rows facts s r cpu l (a.entered cpu l)) flag
+    flag_done : (flag : ℕ) → Done rows cpu s (flag_stored s cpu flag)
+    flag_done flag = stored_done rows cpu s r (entered_home rows facts s r cpu l (a.entered cpu l)) flag
 
-    halted-went : (flag : ℕ) → Went rows h s (halted (flag_stored s cpu flag))
+    halted_went : (flag : ℕ) → Went rows h s (halted (flag_stored s cpu flag))
     unfolding halted entered_on
-    halted-went flag =
-        let d = flag-done flag in
-        done-went _ (done_then rows cpu s _ _ d (halted_done rows cpu _ d.ready)) (λ c b. inl (nobody_there_lem 4 c))
+    halted_went flag =
+        let d = flag_done flag in
+        done_went _ (done_then rows cpu s _ _ d (halted_done rows cpu _ d.ready)) (λ c b. inl (nobody_there_lem 4 c))
 
     -- an entry, where every other CPU stands where it stood or has nobody entered
     module _ (m : State) (d : Done rows cpu s m) (notes : Notes) where
@@ -120,8 +120,8 @@ module _ (rows : List ℕ) (facts : Facts rows) (h : Heard) (s : State) (f : For
       fits others c b (yes q) = rw q entry.fits
       fits others c b (no ne) = elsewhere c b ne (others c ne)
 
-      entry-went : ((c : ℕ) → (c ≡ cpu → ⊥) → SamePlace rows c s.clock m.clock ⊎ (entered_on m c ≡ nobody)) → Went rows h s t
-      entry-went others = done-went t all (λ c b. fits others c b (ℕ_discrete c cpu))
+      entry_went : ((c : ℕ) → (c ≡ cpu → ⊥) → SamePlace rows c s.clock m.clock ⊎ (entered_on m c ≡ nobody)) → Went rows h s t
+      entry_went others = done_went t all (λ c b. fits others c b (ℕ_discrete c cpu))
 
 -- ---- every call
 
@@ -135,20 +135,20 @@ call_went rows s h facts f a =
       went_on = λ cpu made l on x n.
           clock_went rows facts h s f a _ (lasting_tick rows facts s.clock f.clock a.clock cpu l).lasting (place_on rows s.clock cpu (inside cpu l) on);
       moved = λ cpu flag made l shut.
-          entry-went rows facts h s f a cpu made l _ (tick-done cpu flag l) plain
+          entry_went rows facts h s f a cpu made l _ (tick_done cpu flag l) plain
           (λ c d. inl (subst (SamePlace rows c s.clock) (sym (flag_beside (with_clock s (tick_of rows s.clock cpu).clock) cpu flag).clock) (place_elsewhere rows s.clock cpu shut c d)));
       opened = λ cpu flag made l opens.
-          let d = tick-done cpu flag l in
-          entry-went rows facts h s f a cpu made l _ (done_then rows cpu s _ _ d (alone_done rows cpu _ d.ready)) new_frame (λ c ne. inr (nobody_else _ cpu c ne));
-      stopped = λ cpu flag made l x why. halted-went rows facts h s f a cpu made l flag;
+          let d = tick_done cpu flag l in
+          entry_went rows facts h s f a cpu made l _ (done_then rows cpu s _ _ d (alone_done rows cpu _ d.ready)) new_frame (λ c ne. inr (nobody_else _ cpu c ne));
+      stopped = λ cpu flag made l x why. halted_went rows facts h s f a cpu made l flag;
       handles = λ cpu flag event made l somebody of notes e.
-          let d = flag-done rows facts h s f a cpu made l flag in
-          entry-went rows facts h s f a cpu made l _
+          let d = flag_done rows facts h s f a cpu made l flag in
+          entry_went rows facts h s f a cpu made l _
           (done_then rows cpu s _ _ d (handled_done rows facts cpu l _ d.ready (entered_on s cpu) event (home cpu l somebody) of)) notes
           (λ c ne. inl (same_clock rows c s.clock _ (flag_beside s cpu flag).clock));
       interrupts = λ cpu vector flag made l.
-          let d = flag-done rows facts h s f a cpu made l flag in
-          entry-went rows facts h s f a cpu made l _
+          let d = flag_done rows facts h s f a cpu made l flag in
+          entry_went rows facts h s f a cpu made l _
           (done_then rows cpu s _ _ d (interrupted_done rows facts cpu l _ d.ready (record { 0 = vector }))) plain
           (λ c ne. inl (same_clock rows c s.clock _ (flag_beside s cpu flag).clock));
     })
@@ -159,7 +159,7 @@ call_went rows s h facts f a =
     home : (cpu : ℕ) → cpu < (counts_of rows).cpus → (entered_on s cpu ≡ nobody → ⊥) → cpu_of_subject rows (entered_on s cpu) ≡ cpu
     home cpu l = entered_home rows facts s (ready_of rows s f a) cpu l (a.entered cpu l)
 
-    tick-done : (cpu flag : ℕ) → cpu < (counts_of rows).cpus → Done rows cpu s (flag_stored (with_clock s (tick_of rows s.clock cpu).clock) cpu flag)
-    tick-done cpu flag l =
+    tick_done : (cpu flag : ℕ) → cpu < (counts_of rows).cpus → Done rows cpu s (flag_stored (with_clock s (tick_of rows s.clock cpu).clock) cpu flag)
+    tick_done cpu flag l =
         let d = ticked_done rows facts cpu l s (ready_of rows s f a) in
         done_then rows cpu s _ _ d (stored_done rows cpu _ d.ready (home cpu l) flag)

@@ -80,20 +80,20 @@ module _ (rows : List ℕ) (facts : Facts rows) (cpu : ℕ) (l : cpu < (counts_o
     abbrev x : ℕ
     x = active_subject s.programs group
 
-    group-here : (group < (counts_of rows).groups) × (partition_of rows group ≡ here)
-    group-here =
+    group_here : (group < (counts_of rows).groups) × (partition_of rows group ≡ here)
+    group_here =
         let a = r.programs.group here (current rows facts cpu l s r).0 in
         laws.rounds.within rows s.programs here group a.below a.here chosen
 
-    subject-here : SubjectOf rows group x
-    subject-here = r.programs.subject group group-here.0
+    subject_here : SubjectOf rows group x
+    subject_here = r.programs.subject group group_here.0
 
     subject_cpu : cpu_of_subject rows x ≡ cpu
-    subject_cpu = ap (λ (g : ℕ). cpu_of rows (partition_of rows g)) subject-here.here ∙ ap (cpu_of rows) group-here.1 ∙ (current rows facts cpu l s r).1
+    subject_cpu = ap (λ (g : ℕ). cpu_of rows (partition_of rows g)) subject_here.here ∙ ap (cpu_of rows) group_here.1 ∙ (current rows facts cpu l s r).1
 
-    group-awake : (group_at (with_active s.programs here group) (group_of rows x)).awake ≡ true
-    group-awake =
-        ap (λ (a : Group). a.awake) (group_of_active s.programs here group (group_of rows x) ∙ ap (group_at s.programs) subject-here.here)
+    group_awake : (group_at (with_active s.programs here group) (group_of rows x)).awake ≡ true
+    group_awake =
+        ap (λ (a : Group). a.awake) (group_of_active s.programs here group (group_of rows x) ∙ ap (group_at s.programs) subject_here.here)
         ∙ laws.rounds.awake rows s.programs here group chosen
 
     becomes_active : Done rows cpu s (with_programs s (with_active s.programs here group))
@@ -113,20 +113,20 @@ module _ (rows : List ℕ) (facts : Facts rows) (cpu : ℕ) (l : cpu < (counts_o
         (laws.no_lost_wake.entered rows m.programs x awake)
 
     -- the active subject of the group is entered
-    one-entered : waiting s.clock cpu ≡ false → Entered rows cpu s (enters rows (with_programs s (with_active s.programs here group)) cpu x notes)
+    one_entered : waiting s.clock cpu ≡ false → Entered rows cpu s (enters rows (with_programs s (with_active s.programs here group)) cpu x notes)
     unfolding enters with_programs with_entered active_on
-    one-entered runs =
+    one_entered runs =
         let active = becomes_active in
-        let event = taken _ active.ready group-awake in
+        let event = taken _ active.ready group_awake in
         record {
           done = done_then rows cpu s _ _ active (done_then rows cpu _ _ _ event (entered_done rows cpu _ event.ready x));
           clock = refl;
-          fits = inr (runs, is-active);
+          fits = inr (runs, is_active);
         }
       where
-        is-active : entered_on (with_entered (with_programs s (into rows s.programs here group x)) cpu x) cpu
+        is_active : entered_on (with_entered (with_programs s (into rows s.programs here group x)) cpu x) cpu
             ≡ active_subject (into rows s.programs here group x) (active_group (into rows s.programs here group x) here)
-        is-active =
+        is_active =
             let small = facts.counts.partitions.1 in
             let q = (current rows facts cpu l s r).0 in
             entered_there (with_programs s (into rows s.programs here group x)) cpu x inside
@@ -137,7 +137,7 @@ module _ (rows : List ℕ) (facts : Facts rows) (cpu : ℕ) (l : cpu < (counts_o
       → Entered rows cpu s (admitted rows s cpu here notes found)
   unfolding admitted
   admits runs Nobody e = none_entered _
-  admits runs (At group) e = one-entered group e runs
+  admits runs (At group) e = one_entered group e runs
 
   pub entry_done : Entered rows cpu s (entry_of rows s cpu notes)
   unfolding entry_of

@@ -56,24 +56,24 @@ module _ (rows : List ℕ) (s : State) (cpu : ℕ) (notes : Notes) where
   into group = entering rows (with_active s.programs here group) (active_subject s.programs group)
 
   module _ (l : cpu < length s.entered) where
-    found-enters : (group : ℕ) → waiting s.clock cpu ≡ false → chosen_group rows s.programs here ≡ At group
+    found_enters : (group : ℕ) → waiting s.clock cpu ≡ false → chosen_group rows s.programs here ≡ At group
         → ((entry_of rows s cpu notes).answer ≡ Enter (active_subject s.programs group) (ticks_left s.clock cpu) (injected_of (into group).vector) (into group).reset notes)
         × ((entered_on (entry_of rows s cpu notes).state cpu ≡ active_subject s.programs group) × ((entry_of rows s cpu notes).state.programs ≡ (into group).programs))
     unfolding admitted enters with_programs with_entered
-    found-enters group w e =
+    found_enters group w e =
         rw (entry_admits (At group) w e)
         (refl, (entered_there (with_programs s (into group).programs) cpu (active_subject s.programs group) l, refl))
 
-    pub entry-finds : EntryFinds rows s cpu notes
+    pub entry_finds : EntryFinds rows s cpu notes
     unfolding admitted
-    entry-finds =
+    entry_finds =
         record {
           waits = λ w. rw (entry_waits w) (refl, entered_there s cpu nobody l);
           idles = λ w e. rw (entry_admits Nobody w e) (refl, entered_there s cpu nobody l);
-          enters = found-enters;
+          enters = found_enters;
           runs = λ g w a b q r.
               let o = rounds.somebody rows s.programs here g a b q r in
-              (o.0, (found-enters o.0 w o.1).1.0, rounds.awake rows s.programs here o.0 o.1);
+              (o.0, (found_enters o.0 w o.1).1.0, rounds.awake rows s.programs here o.0 o.1);
         }
 
 -- ---- a stop
@@ -111,4 +111,4 @@ nobody_after_stop p s h =
     (λ why q. absurd (false≢true q)) (λ c f. (fine_leaves p s c f).nobody_after)
 
 pub entries : Entries
-entries = record { entry = entry-finds; step = step_after; then_entry = then_entry; stopped = stopped; stays_stopped = stays_stopped; nobody_after_stop = nobody_after_stop }
+entries = record { entry = entry_finds; step = step_after; then_entry = then_entry; stopped = stopped; stays_stopped = stays_stopped; nobody_after_stop = nobody_after_stop }

@@ -75,16 +75,16 @@ not_a_policy reading e = (to, from)
     from none = ap (λ (t : Started). t.verdict) (by ∙ with_known reading.policy false (no_text_unknown reading.policy none))
 
 nothing_started : (reading : Reading) (why : Refusal) → (start_of reading).verdict ≡ Refused why → (start_of reading).state ≡ zero_state
-nothing_started reading why e = by-verdict reading.verdict refl
+nothing_started reading why e = by_verdict reading.verdict refl
   where
-    by-known : (b : Bool) → known reading.policy ≡ b → reading.verdict ≡ Accepted → (start_of reading).state ≡ zero_state
-    by-known true k a =
+    by_known : (b : Bool) → known reading.policy ≡ b → reading.verdict ≡ Accepted → (start_of reading).state ≡ zero_state
+    by_known true k a =
         absurd (accepted_refused why (sym (ap (λ (t : Started). t.verdict) (by_policy reading a ∙ with_known reading.policy true k)) ∙ e))
-    by-known false k a = ap (λ (t : Started). t.state) (by_policy reading a ∙ with_known reading.policy false k)
+    by_known false k a = ap (λ (t : Started). t.state) (by_policy reading a ∙ with_known reading.policy false k)
 
-    by-verdict : (v : Verdict) → reading.verdict ≡ v → (start_of reading).state ≡ zero_state
-    by-verdict Accepted a = by-known (known reading.policy) refl a
-    by-verdict (Refused other) a = ap (λ (t : Started). t.state) (by_refusal reading other a)
+    by_verdict : (v : Verdict) → reading.verdict ≡ v → (start_of reading).state ≡ zero_state
+    by_verdict Accepted a = by_known (known reading.policy) refl a
+    by_verdict (Refused other) a = ap (λ (t : Started). t.state) (by_refusal reading other a)
 
 pub starts : Starts
 starts =

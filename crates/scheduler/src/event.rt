@@ -12,7 +12,7 @@ use rows::{cpu_of, group_of, partition_of};
 const EVENTS: u8 = 16;
 
 // Whether an action stops the core.
-#[derive(Drop)]
+#[derive(Clone, Copy, Drop)]
 pub enum Stopping {
     Goes,
     Stops(Reason),

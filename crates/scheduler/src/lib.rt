@@ -1,4 +1,6 @@
 // The scheduler: calls answered, one at a time, and who is entered.
+#![tactic(auto)]
+
 ghost use Rattle.scheduler.specs.Lawful.{Lawful};
 
 pub mod call; // the seven calls

@@ -8,7 +8,7 @@ use policy::{Policy, Reading};
 use rules::{Refusal, Verdict};
 
 // The verdict, and beside it the state: fresh, or all zeros where nothing is started.
-#[derive(Drop)]
+#[derive(Clone, Copy, Drop)]
 pub struct Started {
     pub verdict: Verdict,
     pub state: State,

@@ -14,7 +14,7 @@ const CPUS: u8 = 4;
 // The flag of a subject that is open.
 const OPEN: u8 = 1;
 
-#[derive(Drop)]
+#[derive(Clone, Copy, Drop)]
 pub struct State {
     pub clock: Clock,
     pub programs: Programs,
@@ -24,7 +24,7 @@ pub struct State {
 }
 
 // The state after a call, and the call's answer.
-#[derive(Drop)]
+#[derive(Clone, Copy, Drop)]
 pub struct Stepped {
     pub state: State,
     pub answer: Answer,

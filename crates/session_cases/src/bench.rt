@@ -2,7 +2,7 @@
 use policy::Policy;
 use scheduler::State;
 
-#[derive(Drop)]
+#[derive(Clone, Copy, Drop)]
 pub(crate) struct Bench {
     pub policy: Policy,
     pub state: State,

@@ -13,7 +13,7 @@ use rows::set_row;
 use scheduler::State;
 
 // Of one field: which, of what, and its value.
-#[derive(Drop)]
+#[derive(Clone, Copy, Drop)]
 pub(crate) struct Change {
     pub field: u8,
     pub index: u8,

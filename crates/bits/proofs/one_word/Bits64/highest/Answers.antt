@@ -1,0 +1,40 @@
+-- `Bits64::highest` meets its contract. The loop's invariant: the highest number is the highest below `left`. The measure is `left`.
+-- Assumes nothing.
+use mathlib.Core.Path.{◌≡◌, refl, sym, ◌∙◌}
+use Prim.Native.Nat.{◌-◌, ◌≤◌}
+use native.Mathlib.Omega.{arith}
+use Rattle.bits.specs.Members.{highest_below}
+use Rattle.bits.specs.Sets.{words64, has64, highest64}
+use Rattle.bits.proofs.Laws.{walk_step, walk_ended}
+use Rattle.bits.proofs.Sets.{one_word}
+use Rattle.bits.proofs.Callers.{empty_highest}
+use Rattle.bits.proofs.one_word.Bits64.highest.Goals as goal
+
+pub returns-then-is_empty : goal.returns-then-is_empty
+returns-then-is_empty c = sym (empty_highest one_word _ (sym c.is_empty.ensures ∙ c.if-is_empty.true))
+
+pub loop-left-init : goal.loop-left-init
+unfolding highest64
+loop-left-init c = (omega arith, refl)
+
+pub returns-then-test : goal.returns-then-test
+unfolding has64
+returns-then-test c =
+    let b = c in
+    let ws = words64 b.args.self in
+    let n = b.loop-left.left in
+    sym (b.loop-left.invariant.1 ∙ walk_step ws n (n - 1) (omega arith) (sym c.test.ensures ∙ c.if-test.true))
+
+pub loop-left-preserved : goal.loop-left-preserved
+unfolding has64
+loop-left-preserved c =
+    let b = c in
+    let ws = words64 b.args.self in
+    let n = b.loop-left.left in
+    (omega arith, b.loop-left.invariant.1 ∙ walk_step ws n (n - 1) (omega arith) (sym c.test.ensures ∙ c.if-test.false))
+
+pub returns : goal.returns
+returns c =
+    let b = c in
+    let ended : b.loop-left.left ≡ 0 = omega arith in
+    sym (b.loop-left.invariant.1 ∙ rw ended (walk_ended _))

@@ -1,0 +1,9 @@
+-- `current_partition` meets its contract: a field of the current minor frame.
+use borrow.Author.Rules.{rules}
+use mathlib.Core.Path.{refl, ap}
+use Rattle.clock.specs.Time.{current_partition}
+use Rattle.clock.proofs.time.Clock.current_partition.Goals as goal
+
+pub returns : goal.returns
+unfolding current_partition
+returns c = (ap (λ f. f.partition) c.current_frame-frame.ensures.0, refl)

@@ -1,0 +1,16 @@
+-- `run` meets its contract. The loop's invariant: the run is what was passed and the run of what is left.
+use native.Mathlib.Omega.{arith}
+use borrow.Author.Rules.{rules}
+use Prim.Native.Nat.{◌≤◌, ◌+◌, ◌-◌, suc}
+use mathlib.Core.Path.{◌≡◌, sym, ◌∙◌}
+use native.Mathlib.Numerals.{add-one}
+use lib.ListN.{length, drop}
+use Rattle.hexline.specs.Run.{run_of}
+use Rattle.hexline.proofs.RunLaws.{run_stop, run_more, run_end}
+use Rattle.hexline.proofs.read.run.Given as goal
+
+abbrev pub invariant-loop-i : goal.invariant-loop-i
+invariant-loop-i l = (l.i ≤ length l.text) × (run_of l.text ≡ l.i + run_of (drop l.i l.text))
+
+abbrev pub decreases-loop-i : goal.decreases-loop-i
+decreases-loop-i l = length l.text - l.i

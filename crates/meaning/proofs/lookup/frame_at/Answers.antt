@@ -1,0 +1,15 @@
+-- `frame_at` meets its contract: nothing without a row, else what the line says.
+use borrow.Author.Rules.{rules}
+use mathlib.Core.Path.{refl, sym, ◌∙◌}
+use borrow.Author.Tests.{eq-eqb, ne_eqb}
+use Rattle.meaning.specs.Lookups.{frame_at}
+use Rattle.meaning.specs.Answers.{no_frame}
+use Rattle.meaning.proofs.lookup.frame_at.Goals as goal
+
+pub returns-then-row-eq0 : goal.returns-then-row-eq0
+unfolding frame_at no_frame
+returns-then-row-eq0 c = (rw (eq-eqb _ 0 (sym c.minor_row-row.ensures.0 ∙ c.if-row-eq0.true)), refl)
+
+pub returns : goal.returns
+unfolding frame_at
+returns c = (c.frame_from.ensures ∙ rw (c.keyed_minor-line.ensures, c.minor_row-row.ensures.0, ne_eqb _ 0 (λ q. c.if-row-eq0.false (c.minor_row-row.ensures.0 ∙ q))), refl)

@@ -1,0 +1,14 @@
+-- `route_of` meets its contract: nothing without a row, else what the line says.
+use borrow.Author.Rules.{rules}
+use mathlib.Core.Path.{refl, sym, ◌∙◌}
+use borrow.Author.Tests.{eq-eqb, ne_eqb}
+use Rattle.meaning.specs.Lookups.{route_of}
+use Rattle.meaning.proofs.lookup.route_of.Goals as goal
+
+pub returns-then-row-eq0 : goal.returns-then-row-eq0
+unfolding route_of
+returns-then-row-eq0 c = (rw (eq-eqb _ 0 (sym c.route_row-row.ensures.0 ∙ c.if-row-eq0.true)), refl)
+
+pub returns : goal.returns
+unfolding route_of
+returns c = (c.route_from.ensures ∙ rw (c.keyed_route-line.ensures, c.route_row-row.ensures.0, ne_eqb _ 0 (λ q. c.if-row-eq0.false (c.route_row-row.ensures.0 ∙ q))), refl)

@@ -1,0 +1,15 @@
+-- `source_event` meets its contract: nothing without a row, else what the line says.
+use borrow.Author.Rules.{rules}
+use mathlib.Core.Path.{refl, sym, ◌∙◌}
+use borrow.Author.Tests.{eq-eqb, ne_eqb}
+use Rattle.meaning.specs.Lookups.{source_event}
+use Rattle.meaning.specs.Answers.{no_event}
+use Rattle.meaning.proofs.lookup.source_event.Goals as goal
+
+pub returns-then-row-eq0 : goal.returns-then-row-eq0
+unfolding source_event no_event
+returns-then-row-eq0 c = (rw (eq-eqb _ 0 (sym c.event_row-row.ensures.0 ∙ c.if-row-eq0.true)), refl)
+
+pub returns : goal.returns
+unfolding source_event
+returns c = (c.source_from.ensures ∙ rw (c.keyed_event-line.ensures, c.event_row-row.ensures.0, ne_eqb _ 0 (λ q. c.if-row-eq0.false (c.event_row-row.ensures.0 ∙ q))), refl)

@@ -1,0 +1,14 @@
+-- `trap_event` meets its contract: the default without a row, else the event of the line.
+use borrow.Author.Rules.{rules}
+use mathlib.Core.Path.{refl, sym, ◌∙◌}
+use borrow.Author.Tests.{eq-eqb, ne_eqb}
+use Rattle.meaning.specs.Lookups.{trap_event}
+use Rattle.meaning.proofs.lookup.trap_event.Goals as goal
+
+pub returns-then-row-eq0 : goal.returns-then-row-eq0
+unfolding trap_event
+returns-then-row-eq0 c = (c.default_event.ensures.0 ∙ rw (eq-eqb _ 0 (sym c.trap_row-row.ensures.0 ∙ c.if-row-eq0.true)), refl)
+
+pub returns : goal.returns
+unfolding trap_event
+returns c = (rw (c.keyed_trap-line.ensures, c.trap_row-row.ensures.0, ne_eqb _ 0 (λ q. c.if-row-eq0.false (c.trap_row-row.ensures.0 ∙ q))), refl)

@@ -1,0 +1,8 @@
+-- `handed_up` meets its contract: the policy beside it is all zeros.
+use borrow.Author.Rules.{rules}
+use Rattle.policy.specs.Reads.{handed_up}
+use Rattle.policy.proofs.reader.handed_up.Goals as goal
+
+pub returns : goal.returns
+unfolding handed_up
+returns c = rw c.zero-policy.ensures

@@ -1,0 +1,17 @@
+-- `no_record` meets its contract: each arm is one case of `no_record`.
+use borrow.Author.Rules.{rules}
+use mathlib.Core.Path.{◌∙◌}
+use Rattle.policy.specs.Reads.{no_record}
+use Rattle.policy.proofs.reader.no_record.Goals as goal
+
+pub returns-in-Got : goal.returns-in-Got
+unfolding no_record
+returns-in-Got c = c.refused.ensures ∙ rw c.in-Got.is
+
+pub returns-in-IllFormed : goal.returns-in-IllFormed
+unfolding no_record
+returns-in-IllFormed c = c.refused-in-IllFormed.ensures ∙ rw c.in-IllFormed.is
+
+pub returns-in-WrongKind : goal.returns-in-WrongKind
+unfolding no_record
+returns-in-WrongKind c = c.refused-in-WrongKind.ensures ∙ rw c.in-WrongKind.is

@@ -1,0 +1,23 @@
+-- `groups_in_range_below` meets its contract: before each turn, the partitions' active groups so far are in range.
+use mathlib.Core.Path.{◌≡◌, sym, ◌∙◌}
+use native.Mathlib.Omega.{arith}
+use borrow.Author.Rules.{rules}
+use Prim.Native.Nat.{◌≤◌, ◌-◌}
+use mathlib.Core.Bool.{true}
+use borrow.Author.Tests.{not-true, not-false}
+use Rattle.rules.proofs.Below.{below_none, below_more, below_stop, below_end}
+use Rattle.rules.specs.Rules.{all_below}
+use Rattle.programs.specs.Range.{group_in_range}
+use Rattle.programs.proofs.whole.Programs.groups_in_range_below.Goals as goal
+
+pub loop-partition-init : goal.loop-partition-init
+loop-partition-init c = (omega arith, below_none _)
+
+pub returns-then-not-group_in_range : goal.returns-then-not-group_in_range
+returns-then-not-group_in_range c = sym (below_stop _ _ c.loop-partition.partition (omega arith) (sym c.group_in_range.ensures ∙ c.if-not-group_in_range.true))
+
+pub loop-partition-preserved : goal.loop-partition-preserved
+loop-partition-preserved c = (omega arith, below_more _ _ c.loop-partition.invariant.1 (sym c.group_in_range.ensures ∙ c.if-not-group_in_range.false))
+
+pub returns : goal.returns
+returns c = below_end _ _ c.loop-partition.partition (omega arith) c.loop-partition.invariant.1

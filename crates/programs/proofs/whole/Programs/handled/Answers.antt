@@ -1,0 +1,9 @@
+-- `handled` meets its contract: the action first, then the target event.
+use borrow.Author.Rules.{rules}
+use mathlib.Core.Path.{refl}
+use Rattle.programs.specs.Source.{handled}
+use Rattle.programs.proofs.whole.Programs.handled.Goals as goal
+
+pub returns : goal.returns
+unfolding handled
+returns c = (rw (← c.acted-after.ensures) c.signalled.ensures.0, refl)

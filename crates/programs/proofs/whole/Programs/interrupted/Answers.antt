@@ -1,0 +1,9 @@
+-- `interrupted` meets its contract: what the policy says of the vector is done.
+use borrow.Author.Rules.{rules}
+use mathlib.Core.Path.{refl}
+use Rattle.programs.specs.Signals.{interrupted}
+use Rattle.programs.proofs.whole.Programs.interrupted.Goals as goal
+
+pub returns : goal.returns
+unfolding interrupted
+returns c = (rw (← c.route_of-route.ensures.0) c.routed.ensures, refl)

@@ -1,0 +1,8 @@
+-- `may_run` meets its contract: both tests are the definition's.
+use borrow.Author.Rules.{rules}
+use Rattle.programs.specs.Round.{may_run}
+use Rattle.programs.proofs.whole.Programs.may_run.Goals as goal
+
+pub returns : goal.returns
+unfolding may_run
+returns c = rw (← c.partition_of-home.ensures.0, ← c.group_at-kept.ensures)

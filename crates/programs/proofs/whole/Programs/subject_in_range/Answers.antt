@@ -1,0 +1,10 @@
+-- `subject_in_range` meets its contract: both tests are the definition's.
+use borrow.Author.Rules.{rules}
+use mathlib.Core.Path.{ap}
+use Rattle.programs.specs.Parts.{active_subject}
+use Rattle.programs.specs.Range.{subject_in_range}
+use Rattle.programs.proofs.whole.Programs.subject_in_range.Goals as goal
+
+pub returns : goal.returns
+unfolding subject_in_range active_subject
+returns c = rw (← ap (λ g. g.active) c.group_at-kept.ensures, ← c.counts_of-counts.ensures.0, ← c.group_of-home.ensures.0)

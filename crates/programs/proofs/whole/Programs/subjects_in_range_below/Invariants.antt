@@ -1,0 +1,17 @@
+-- `subjects_in_range_below` meets its contract: before each turn, the groups' active subjects so far are in range.
+use mathlib.Core.Path.{◌≡◌, sym, ◌∙◌}
+use native.Mathlib.Omega.{arith}
+use borrow.Author.Rules.{rules}
+use Prim.Native.Nat.{◌≤◌, ◌-◌}
+use mathlib.Core.Bool.{true}
+use borrow.Author.Tests.{not-true, not-false}
+use Rattle.rules.proofs.Below.{below_none, below_more, below_stop, below_end}
+use Rattle.rules.specs.Rules.{all_below}
+use Rattle.programs.specs.Range.{subject_in_range}
+use Rattle.programs.proofs.whole.Programs.subjects_in_range_below.Given as goal
+
+abbrev pub invariant-loop-group : goal.invariant-loop-group
+invariant-loop-group l = (l.group ≤ l.count) × (all_below l.group (subject_in_range l.rows l.self) ≡ true)
+
+abbrev pub decreases-loop-group : goal.decreases-loop-group
+decreases-loop-group l = l.count - l.group

@@ -1,0 +1,9 @@
+-- `read_frame` meets its contract: the fields are the line's bytes, in their order.
+use borrow.Author.Rules.{rules}
+use Rattle.hexline.specs.Lines.{byte_at, number_at}
+use Rattle.records.specs.Kinds.{frame_in}
+use Rattle.records.proofs.read.read_frame.Goals as goal
+
+pub returns : goal.returns
+unfolding frame_in byte_at number_at
+returns c = rw (c.byte_at-major.ensures.0, c.byte_at-cpu.ensures.0, c.byte_at-partition.ensures.0, c.number_at-length.ensures.0)

@@ -1,0 +1,9 @@
+-- `read_route` meets its contract: the fields are the line's bytes, in their order.
+use borrow.Author.Rules.{rules}
+use Rattle.hexline.specs.Lines.{byte_at}
+use Rattle.records.specs.Kinds.{route_in}
+use Rattle.records.proofs.read.read_route.Goals as goal
+
+pub returns : goal.returns
+unfolding route_in byte_at
+returns c = rw (c.byte_at-host.ensures.0, c.byte_at-subject.ensures.0, c.byte_at-vector.ensures.0, c.byte_at-irq.ensures.0)

@@ -1,0 +1,9 @@
+-- `read_target` meets its contract: the fields are the line's bytes, in their order.
+use borrow.Author.Rules.{rules}
+use Rattle.hexline.specs.Lines.{byte_at}
+use Rattle.records.specs.Kinds.{target_in}
+use Rattle.records.proofs.read.read_target.Goals as goal
+
+pub returns : goal.returns
+unfolding target_in byte_at
+returns c = rw (c.byte_at-subject.ensures.0, c.byte_at-event.ensures.0, c.byte_at-action.ensures.0, c.byte_at-vector.ensures.0)

@@ -1,0 +1,9 @@
+-- `is_framed` meets its contract: the first of its eight rows is not 0.
+use borrow.Author.Rules.{rules}
+use mathlib.Core.Path.{refl}
+use Rattle.rows.specs.Lookups.{framed, given}
+use Rattle.rows.proofs.lookup.is_framed.Goals as goal
+
+pub returns : goal.returns
+unfolding framed given
+returns c = (rw (c.row_at.ensures.0, c.frames_place-place.ensures), refl)

@@ -1,0 +1,9 @@
+-- `frame_misplaced` meets its contract: the tests of `frame_misplaced`, by lookups.
+use borrow.Author.Rules.{rules}
+use Rattle.rules.specs.Rules.{frame_misplaced}
+use Rattle.rules.specs.Tables.{said_by}
+use Rattle.rules.proofs.misplaced.frame_misplaced.Goals as goal
+
+pub returns : goal.returns
+unfolding frame_misplaced said_by
+returns c = rw (c.partition_given-given.ensures.0, c.cpu_of-cpu.ensures.0)

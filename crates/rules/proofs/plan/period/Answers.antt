@@ -1,0 +1,8 @@
+-- `period` meets its contract: the lengths by lookup, and their sum.
+use borrow.Author.Rules.{rules}
+use Rattle.rules.specs.Plan.{period_by}
+use Rattle.rules.proofs.plan.period.Goals as goal
+
+pub returns : goal.returns
+unfolding period_by
+returns c = rw (c.plan_length.ensures.0, c.lengths_of-lengths.ensures)

@@ -1,0 +1,6 @@
+-- `home_of` meets its contract: the group of the subject, its partition, and its CPU.
+use borrow.Author.Rules.{rules}
+use Rattle.scheduler.proofs.event.home_of.Goals as goal
+
+pub returns : goal.returns
+returns c = rw (← c.group_of-group.ensures.0, ← c.partition_of-partition.ensures.0) c.cpu_of.ensures.0

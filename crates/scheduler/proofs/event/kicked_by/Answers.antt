@@ -1,0 +1,16 @@
+-- `kicked_by` meets its contract: there is no target, or its one test is whether the event kicks.
+use borrow.Author.Rules.{rules}
+use Rattle.scheduler.specs.Calls.{kicked_by}
+use Rattle.scheduler.proofs.event.kicked_by.Goals as goal
+
+pub returns-then-kick : goal.returns-then-kick
+unfolding kicked_by
+returns-then-kick c = rw (c.in-To.is, c.if-kick.true, ← c.home_of.ensures)
+
+pub returns-in-Nothing : goal.returns-in-Nothing
+unfolding kicked_by
+returns-in-Nothing c = rw c.in-Nothing.is
+
+pub returns-else-kick : goal.returns-else-kick
+unfolding kicked_by
+returns-else-kick c = rw (c.in-To.is, c.if-kick.false)

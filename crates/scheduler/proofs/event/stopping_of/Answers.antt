@@ -1,0 +1,36 @@
+-- `stopping_of` meets its contract: each action is one of its cases.
+use borrow.Author.Rules.{rules}
+use Rattle.scheduler.specs.Calls.{stopping_of}
+use Rattle.scheduler.proofs.event.stopping_of.Goals as goal
+
+pub returns-in-Nothing : goal.returns-in-Nothing
+unfolding stopping_of
+returns-in-Nothing c = rw c.in-Nothing.is
+
+pub returns-in-Sleep : goal.returns-in-Sleep
+unfolding stopping_of
+returns-in-Sleep c = rw c.in-Sleep.is
+
+pub returns-in-Yield : goal.returns-in-Yield
+unfolding stopping_of
+returns-in-Yield c = rw c.in-Yield.is
+
+pub returns-in-Handover : goal.returns-in-Handover
+unfolding stopping_of
+returns-in-Handover c = rw c.in-Handover.is
+
+pub returns-in-Unmask : goal.returns-in-Unmask
+unfolding stopping_of
+returns-in-Unmask c = rw c.in-Unmask.is
+
+pub returns-in-Reboot : goal.returns-in-Reboot
+unfolding stopping_of
+returns-in-Reboot c = rw c.in-Reboot.is
+
+pub returns-in-PowerOff : goal.returns-in-PowerOff
+unfolding stopping_of
+returns-in-PowerOff c = rw c.in-PowerOff.is
+
+pub returns-in-Panic : goal.returns-in-Panic
+unfolding stopping_of
+returns-in-Panic c = rw c.in-Panic.is

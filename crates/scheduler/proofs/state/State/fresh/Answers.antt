@@ -1,0 +1,9 @@
+-- `fresh` meets its contract: plan time and programs at the start, nobody entered.
+use borrow.Author.Rules.{rules}
+use Rattle.scheduler.specs.States.{fresh_state}
+use mathlib.Core.Path.{refl}
+use Rattle.scheduler.proofs.state.State.fresh.Goals as goal
+
+pub returns : goal.returns
+unfolding fresh_state
+returns c = (rw (← c.fresh-clock.ensures.0, ← c.fresh-programs.ensures.0), refl)

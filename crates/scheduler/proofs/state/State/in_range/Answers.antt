@@ -1,0 +1,18 @@
+-- `in_range` meets its contract: the first test that fails decides, or else the last.
+use borrow.Author.Rules.{rules}
+use Rattle.scheduler.specs.Range.{in_range}
+use mathlib.Core.Path.{refl, sym, ◌∙◌}
+use borrow.Author.Tests.{not-true, not-false}
+use Rattle.scheduler.proofs.state.State.in_range.Goals as goal
+
+pub returns-then-not-in_range : goal.returns-then-not-in_range
+unfolding in_range
+returns-then-not-in_range c = (rw (sym c.in_range.ensures.0 ∙ c.if-not-in_range.true), refl)
+
+pub returns-then-not-in_range-2 : goal.returns-then-not-in_range-2
+unfolding in_range
+returns-then-not-in_range-2 c = (rw (sym c.in_range.ensures.0 ∙ c.if-not-in_range.false, sym c.in_range-2.ensures.0 ∙ c.if-not-in_range-2.true), refl)
+
+pub returns : goal.returns
+unfolding in_range
+returns c = (rw (sym c.in_range.ensures.0 ∙ c.if-not-in_range.false, sym c.in_range-2.ensures.0 ∙ c.if-not-in_range-2.false, ← c.counts_of-counts.ensures.0) c.entered_below.ensures, refl)

@@ -1,0 +1,8 @@
+-- `stop` meets its contract: the state is halted.
+use borrow.Author.Rules.{rules}
+use Rattle.scheduler.specs.Calls.{stop}
+use Rattle.scheduler.proofs.state.State.stop.Goals as goal
+
+pub returns : goal.returns
+unfolding stop
+returns c = rw (← c.halted-state.ensures)
