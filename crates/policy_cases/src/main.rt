@@ -13,6 +13,10 @@
 // A case may be added to stdin and stdout by hand; those that stand there are built by tools/make-policy-cases from the lists in
 // cases/, which have what is expected and why. The proofs say that the program is safe and ends. That it prints what it should
 // is seen by its output.
+#![tactic(auto)]
+
+use std::io;
+
 mod buffer; // a buffer to write into, and what of it was changed
 mod format; // where a case begins and ends
 mod input; // the input, read as far as there is room
@@ -24,7 +28,7 @@ mod refused; // writings that are refused
 const MOST_CASES: u32 = 1000000;
 
 // One case, which the input begins with; how many bytes it has.
-fn run(input: &[u8]) -> usize {
+fn run(rt: &impl Print, input: &[u8]) -> io::Result<usize> {
     let end = format::case_end(input);
     let case = &input[..end];
     let head = format::line_end(case);
@@ -33,34 +37,35 @@ fn run(input: &[u8]) -> usize {
     let name = &first[named..];
     let start = format::text_start(case, head);
     let text = &case[start..];
-    print::name(name);
+    print::name(rt, name)?;
     match format::what(first) {
-        b'-' => reading::open(text),
-        b'=' => refused::changed_row(name, text),
-        b'*' => refused::each_row(text),
-        b'9' => refused::each_length(text),
-        _ => reading::whole(text),
+        b'-' => reading::open(rt, text)?,
+        b'=' => refused::changed_row(rt, name, text)?,
+        b'*' => refused::each_row(rt, text)?,
+        b'9' => refused::each_length(rt, text)?,
+        _ => reading::whole(rt, text)?,
     }
-    io::write_all(1, b"\n");
-    end
+    print::words(rt, b"\n")?;
+    Ok(end)
 }
 
 // All cases. The buffer holds the input from the next case on, as far as it goes.
-fn run_all(buf: &mut [u8]) {
+fn run_all(rt: &(impl Input + Print), buf: &mut [u8]) -> io::Result<()> {
     let mut have: usize = 0;
     let mut turns: u32 = 0;
     while turns < MOST_CASES {
-        let full = input::refill(buf, have);
+        let full = input::refill(rt, buf, have)?;
         if full == 0 {
-            return;
+            return Ok(());
         }
-        let used = run(&buf[..full]);
+        let used = run(rt, &buf[..full])?;
         have = input::shift(buf, used, full);
         turns += 1;
     }
+    Ok(())
 }
 
-fn main() {
+fn main(rt: HostRuntime) -> io::Result<()> {
     let mut buf = input::room();
-    run_all(&mut buf);
+    run_all(&rt, &mut buf)
 }

@@ -1,21 +1,21 @@
 // What is printed.
 ghost use Rattle.std.specs.Prelude.{◌<◌};
 
-use libc::STDOUT_FILENO;
 use rules::Refusal;
+use std::io;
 
-pub(crate) fn words(text: &[u8]) {
-    io::write_all(STDOUT_FILENO, text);
+pub(crate) fn words(rt: &impl Print, text: &[u8]) -> io::Result<()> {
+    rt.write_all(text)
 }
 
-pub(crate) fn number(n: usize) {
-    io::print_decimal(STDOUT_FILENO, n as u64);
+pub(crate) fn number(rt: &impl Print, n: usize) -> io::Result<()> {
+    rt.print(n)
 }
 
 // A case's name, and what parts it from what came of it.
-pub(crate) fn name(name: &[u8]) {
-    words(name);
-    words(b": ");
+pub(crate) fn name(rt: &impl Print, name: &[u8]) -> io::Result<()> {
+    words(rt, name)?;
+    words(rt, b": ")
 }
 
 fn digit(value: u8) -> u8
@@ -24,17 +24,17 @@ fn digit(value: u8) -> u8
     if value < 10 { value + 48 } else { value + 55 }
 }
 
-fn byte(b: u8) {
+fn byte(rt: &impl Print, b: u8) -> io::Result<()> {
     let high = digit(b / 16);
     let low = digit(b % 16);
-    words(&[high, low]);
+    words(rt, &[high, low])
 }
 
 // A refusal: FF, its number, its line in two bytes.
-pub(crate) fn refusal(why: Refusal) {
+pub(crate) fn refusal(rt: &impl Print, why: Refusal) -> io::Result<()> {
     let line = why.line();
-    byte(255);
-    byte(why.number());
-    byte((line / 256) as u8);
-    byte((line % 256) as u8);
+    byte(rt, 255)?;
+    byte(rt, why.number())?;
+    byte(rt, (line / 256) as u8)?;
+    byte(rt, (line % 256) as u8)
 }

@@ -4,6 +4,7 @@ use crate::format::before_last;
 use crate::print;
 use policy::{Policy, Reading, Writing, read, write};
 use rules::{Refusal, Verdict};
+use std::io;
 
 // Whether all rows are zeros, as beside a refusal.
 fn is_zero(rows: &[u64]) -> bool {
@@ -18,28 +19,28 @@ fn is_zero(rows: &[u64]) -> bool {
 }
 
 // What the writer answered, and what it left in the buffer: the text's own bytes, and past them what was there.
-fn written(answer: Writing, out: &[u8; 40000], text: &[u8]) {
+fn written(rt: &impl Print, answer: Writing, out: &[u8; 40000], text: &[u8]) -> io::Result<()> {
     match answer {
         Writing::Wrote(n) => {
             let same = begins(out, text);
             let past = changed(out, n);
             if same & (n == text.len()) & (past == 0) {
-                print::words(b"FE same");
+                print::words(rt, b"FE same")
             } else {
-                print::words(b"FE, and written otherwise");
+                print::words(rt, b"FE, and written otherwise")
             }
         }
         Writing::NotWritten(why) => {
-            print::words(b"FE, and writing it gives ");
-            print::refusal(why);
+            print::words(rt, b"FE, and writing it gives ")?;
+            print::refusal(rt, why)
         }
     }
 }
 
-fn accepted(policy: Policy, text: &[u8]) {
+fn accepted(rt: &impl Print, policy: Policy, text: &[u8]) -> io::Result<()> {
     let mut out = [b'z'; 40000];
     let answer = write(policy, &mut out);
-    written(answer, &out, text);
+    written(rt, answer, &out, text)
 }
 
 // Whether writing the policy is P0 and changes no byte.
@@ -50,29 +51,30 @@ fn is_unknown(policy: Policy) -> bool {
 }
 
 // The refusal. The policy beside it is all zeros, which no accepted text gives.
-fn refused(why: Refusal, policy: Policy) {
-    print::refusal(why);
+fn refused(rt: &impl Print, why: Refusal, policy: Policy) -> io::Result<()> {
+    print::refusal(rt, why)?;
     let rows = policy.rows;
     if !is_zero(&rows) {
-        print::words(b", and the policy is not zero");
+        print::words(rt, b", and the policy is not zero")?;
     }
     if !is_unknown(policy) {
-        print::words(b", and the policy can be written");
+        print::words(rt, b", and the policy can be written")?;
     }
+    Ok(())
 }
 
-pub(crate) fn whole(text: &[u8]) {
+pub(crate) fn whole(rt: &impl Print, text: &[u8]) -> io::Result<()> {
     let reading = read(text);
     let verdict = reading.verdict;
     let policy = reading.policy;
     match verdict {
-        Verdict::Accepted => accepted(policy, text),
-        Verdict::Refused(why) => refused(why, policy),
+        Verdict::Accepted => accepted(rt, policy, text),
+        Verdict::Refused(why) => refused(rt, why, policy),
     }
 }
 
 // The text without its last byte.
-pub(crate) fn open(text: &[u8]) {
+pub(crate) fn open(rt: &impl Print, text: &[u8]) -> io::Result<()> {
     let end = before_last(text);
-    whole(&text[..end]);
+    whole(rt, &text[..end])
 }

@@ -4,6 +4,7 @@ use crate::format::{place_in, row_in};
 use crate::print;
 use policy::{Policy, Writing, read, write};
 use rules::{Refusal, Verdict};
+use std::io;
 
 // How many rows a policy has.
 const ROWS: usize = 2153;
@@ -24,20 +25,20 @@ fn with_row(policy: Policy, place: usize, row: u64) -> Policy {
 }
 
 // What the writer answered, and how many bytes of the buffer it changed past those that it says it wrote.
-fn print_answer(answer: Writing, out: &[u8; 40000]) {
+fn print_answer(rt: &impl Print, answer: Writing, out: &[u8; 40000]) -> io::Result<()> {
     match answer {
         Writing::Wrote(n) => {
-            print::words(b"FE, ");
-            print::number(n);
-            print::words(b" bytes written and past them ");
-            print::number(changed(out, n));
-            print::words(b" changed");
+            print::words(rt, b"FE, ")?;
+            print::number(rt, n)?;
+            print::words(rt, b" bytes written and past them ")?;
+            print::number(rt, changed(out, n))?;
+            print::words(rt, b" changed")
         }
         Writing::NotWritten(why) => {
-            print::refusal(why);
-            print::words(b", ");
-            print::number(changed(out, 0));
-            print::words(b" bytes changed");
+            print::refusal(rt, why)?;
+            print::words(rt, b", ")?;
+            print::number(rt, changed(out, 0))?;
+            print::words(rt, b" bytes changed")
         }
     }
 }
@@ -50,27 +51,27 @@ fn write_within(policy: Policy, out: &mut [u8], length: usize) -> Writing {
     write(policy, &mut out[..length])
 }
 
-fn print_written(policy: Policy, length: usize) {
+fn print_written(rt: &impl Print, policy: Policy, length: usize) -> io::Result<()> {
     let mut out = [b'z'; 40000];
     let answer = write_within(policy, &mut out, length);
-    print_answer(answer, &out);
+    print_answer(rt, answer, &out)
 }
 
 // With room for every text, and with none: P0 comes before P9.
-fn write_changed(policy: Policy, place: usize, row: u64) {
+fn write_changed(rt: &impl Print, policy: Policy, place: usize, row: u64) -> io::Result<()> {
     let p = with_row(policy, place, row);
-    print_written(p, SIZE);
-    print::words(b"; with no room ");
-    print_written(p, 0);
+    print_written(rt, p, SIZE)?;
+    print::words(rt, b"; with no room ")?;
+    print_written(rt, p, 0)
 }
 
-pub(crate) fn changed_row(name: &[u8], text: &[u8]) {
+pub(crate) fn changed_row(rt: &impl Print, name: &[u8], text: &[u8]) -> io::Result<()> {
     let reading = read(text);
     let verdict = reading.verdict;
     let policy = reading.policy;
     match verdict {
-        Verdict::Accepted => write_changed(policy, place_in(name), row_in(name)),
-        Verdict::Refused(why) => print::refusal(why),
+        Verdict::Accepted => write_changed(rt, policy, place_in(name), row_in(name)),
+        Verdict::Refused(why) => print::refusal(rt, why),
     }
 }
 
@@ -109,22 +110,22 @@ fn low_rows(policy: Policy) -> usize {
     count
 }
 
-fn print_each_row(policy: Policy) {
-    print::words(b"FF000000 and no byte changed with bit 63 set in ");
-    print::number(high_bits(policy));
-    print::words(b" rows of ");
-    print::number(ROWS);
-    print::words(b", with 1 in place of ");
-    print::number(low_rows(policy));
+fn print_each_row(rt: &impl Print, policy: Policy) -> io::Result<()> {
+    print::words(rt, b"FF000000 and no byte changed with bit 63 set in ")?;
+    print::number(rt, high_bits(policy))?;
+    print::words(rt, b" rows of ")?;
+    print::number(rt, ROWS)?;
+    print::words(rt, b", with 1 in place of ")?;
+    print::number(rt, low_rows(policy))
 }
 
-pub(crate) fn each_row(text: &[u8]) {
+pub(crate) fn each_row(rt: &impl Print, text: &[u8]) -> io::Result<()> {
     let reading = read(text);
     let verdict = reading.verdict;
     let policy = reading.policy;
     match verdict {
-        Verdict::Accepted => print_each_row(policy),
-        Verdict::Refused(why) => print::refusal(why),
+        Verdict::Accepted => print_each_row(rt, policy),
+        Verdict::Refused(why) => print::refusal(rt, why),
     }
 }
 
@@ -163,41 +164,41 @@ fn too_short_below(policy: Policy, length: usize) -> usize {
     count
 }
 
-fn print_below(policy: Policy, needed: usize) {
-    print::words(b"FF090000 and no byte changed for ");
-    print::number(too_short_below(policy, needed));
-    print::words(b" of the ");
-    print::number(needed);
-    print::words(b" lengths below ");
-    print::number(needed);
+fn print_below(rt: &impl Print, policy: Policy, needed: usize) -> io::Result<()> {
+    print::words(rt, b"FF090000 and no byte changed for ")?;
+    print::number(rt, too_short_below(policy, needed))?;
+    print::words(rt, b" of the ")?;
+    print::number(rt, needed)?;
+    print::words(rt, b" lengths below ")?;
+    print::number(rt, needed)
 }
 
-fn print_from(policy: Policy, length: usize, text: &[u8]) {
-    print::words(b"; for ");
-    print::number(length);
+fn print_from(rt: &impl Print, policy: Policy, length: usize, text: &[u8]) -> io::Result<()> {
+    print::words(rt, b"; for ")?;
+    print::number(rt, length)?;
     if is_written(policy, length, text) {
-        print::words(b" same");
+        print::words(rt, b" same")
     } else {
-        print::words(b" other");
+        print::words(rt, b" other")
     }
 }
 
-fn print_each_length(policy: Policy, text: &[u8]) {
+fn print_each_length(rt: &impl Print, policy: Policy, text: &[u8]) -> io::Result<()> {
     let needed = text.len();
     if SIZE <= needed {
-        return;
+        return Ok(());
     }
-    print_below(policy, needed);
-    print_from(policy, needed, text);
-    print_from(policy, needed + 1, text);
+    print_below(rt, policy, needed)?;
+    print_from(rt, policy, needed, text)?;
+    print_from(rt, policy, needed + 1, text)
 }
 
-pub(crate) fn each_length(text: &[u8]) {
+pub(crate) fn each_length(rt: &impl Print, text: &[u8]) -> io::Result<()> {
     let reading = read(text);
     let verdict = reading.verdict;
     let policy = reading.policy;
     match verdict {
-        Verdict::Accepted => print_each_length(policy, text),
-        Verdict::Refused(why) => print::refusal(why),
+        Verdict::Accepted => print_each_length(rt, policy, text),
+        Verdict::Refused(why) => print::refusal(rt, why),
     }
 }
