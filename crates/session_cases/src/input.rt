@@ -1,7 +1,7 @@
 // The input, as far as there is room for it. A case must fit in.
-ghost use Rattle.std.specs.Prelude.{◌≤◌, ◌≡◌, length};
+ghost use Rattle.std.specs.Prelude.{◌≤◌, ◌≡◌, length, IfOk};
 
-use libc::STDIN_FILENO;
+use std::io::{self, Read};
 
 pub(crate) fn room() -> [u8; 131072]
     ensures { 131072 ≡ length result }
@@ -10,11 +10,20 @@ pub(crate) fn room() -> [u8; 131072]
 }
 
 // Reads on where the buffer has so many bytes; how many it then has.
-pub(crate) fn refill(buf: &mut [u8], have: usize) -> usize
+pub(crate) fn refill(rt: &impl Input, buf: &mut [u8], have: usize) -> io::Result<usize>
     requires { have ≤ length buf.old }
-    ensures { result ≤ length buf.new }
+    ensures { IfOk result (λ n. n ≤ length buf.new) }
 {
-    have + io::read_full(STDIN_FILENO, &mut buf[have..])
+    let mut reader = rt.reader();
+    let mut at = have;
+    while at < buf.len() {
+        let count = reader.read(&mut buf[at..])?;
+        if count == 0 {
+            return Ok(at);
+        }
+        at += count;
+    }
+    Ok(at)
 }
 
 // Drops the first bytes of those that the buffer has; how many are left.

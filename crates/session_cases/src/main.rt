@@ -8,6 +8,10 @@
 // A case may be added to stdin and stdout by hand; those that stand there are built by tools/make-session-cases from the lists in
 // cases/, which have what is expected and why. The proofs say that the program is safe and ends. That it prints what it should
 // is seen by its output.
+#![tactic(auto)]
+
+use std::io;
+
 mod bench; // what calls are played on
 mod change; // changes between calls
 mod change_clock; // of the clock
@@ -21,7 +25,7 @@ mod session; // one case
 const MOST_CASES: u32 = 1000000;
 
 // One case, of its parts: its text behind the first line.
-fn run_text(text: &[u8]) {
+fn run_text(rt: &impl Print, text: &[u8]) -> io::Result<()> {
     let cut = format::policy_end(text);
     let policy = &text[..cut];
     let rest = &text[cut..];
@@ -29,35 +33,36 @@ fn run_text(text: &[u8]) {
     let line = &rest[..head];
     let calls = &rest[head..];
     let end = format::calls_end(line, calls);
-    session::run(policy, &calls[..end]);
+    session::run(rt, policy, &calls[..end])
 }
 
 // The case that the input begins with; how many bytes it has.
-fn run(input: &[u8]) -> usize {
+fn run(rt: &impl Print, input: &[u8]) -> io::Result<usize> {
     let end = format::case_end(input);
     let case = &input[..end];
     let head = format::line_end(case);
-    print::words(&case[..head]);
-    run_text(&case[head..]);
-    end
+    print::words(rt, &case[..head])?;
+    run_text(rt, &case[head..])?;
+    Ok(end)
 }
 
 // All cases. The buffer holds the input from the next case on, as far as it goes.
-fn run_all(buf: &mut [u8]) {
+fn run_all(rt: &(impl Input + Print), buf: &mut [u8]) -> io::Result<()> {
     let mut have: usize = 0;
     let mut turns: u32 = 0;
     while turns < MOST_CASES {
-        let full = input::refill(buf, have);
+        let full = input::refill(rt, buf, have)?;
         if full == 0 {
-            return;
+            return Ok(());
         }
-        let used = run(&buf[..full]);
+        let used = run(rt, &buf[..full])?;
         have = input::shift(buf, used, full);
         turns += 1;
     }
+    Ok(())
 }
 
-fn main() {
+fn main(rt: HostRuntime) -> io::Result<()> {
     let mut buf = input::room();
-    run_all(&mut buf);
+    run_all(&rt, &mut buf)
 }

@@ -7,63 +7,65 @@ use calls::hear;
 use policy::read;
 use rules::Verdict;
 use scheduler::{start, step};
+use std::io;
 
 // A line of calls that begins with it is a change.
 const CHANGE: u8 = b'!';
 
 // A call, answered.
-fn answered(bench: Bench, line: &[u8]) -> Bench {
+fn answered(rt: &impl Print, bench: Bench, line: &[u8]) -> io::Result<Bench> {
     let policy = bench.policy;
     let state = bench.state;
     let heard = hear(line);
     let stepped = step(policy, state, heard);
     let answer = stepped.answer;
-    print::answer(answer);
+    print::answer(rt, answer)?;
     let after = stepped.state;
-    Bench {
+    Ok(Bench {
         policy,
         state: after,
-    }
+    })
 }
 
 // A line among the calls: a call, or a change.
-fn told(bench: Bench, line: &[u8]) -> Bench {
+fn told(rt: &impl Print, bench: Bench, line: &[u8]) -> io::Result<Bench> {
     if line.len() == 0 {
-        return bench;
+        return Ok(bench);
     }
     if line[0] == CHANGE {
-        return changed(bench, &line[1..]);
+        return Ok(changed(bench, &line[1..]));
     }
-    answered(bench, line)
+    answered(rt, bench, line)
 }
 
 // Each line of the calls in turn.
-fn play(bench: Bench, calls: &[u8]) {
+fn play(rt: &impl Print, bench: Bench, calls: &[u8]) -> io::Result<()> {
     let mut now = bench;
     let mut at = 0;
     while at < calls.len() {
         let rest = &calls[at..];
         let end = line_end(rest);
         let line = &rest[..end];
-        let after = told(now, line);
+        let after = told(rt, now, line)?;
         now = after;
         at += end;
     }
+    Ok(())
 }
 
 // One case: the policy's verdict, and where it is accepted the answers.
-pub(crate) fn run(text: &[u8], calls: &[u8]) {
+pub(crate) fn run(rt: &impl Print, text: &[u8], calls: &[u8]) -> io::Result<()> {
     let reading = read(text);
     let policy = reading.policy;
     let started = start(reading);
     let verdict = started.verdict;
     let state = started.state;
     match verdict {
-        Verdict::Refused(why) => print::refusal(why),
+        Verdict::Refused(why) => print::refusal(rt, why),
         Verdict::Accepted => {
-            print::words(b"FE\n");
+            print::words(rt, b"FE\n")?;
             let bench = Bench { policy, state };
-            play(bench, calls);
+            play(rt, bench, calls)
         }
     }
 }
