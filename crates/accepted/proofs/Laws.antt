@@ -26,7 +26,6 @@ use Rattle.policy.specs.Reads.{acceptance, policy_of, read_of, records_of}
 use Rattle.policy.specs.Writes.{text_of, known}
 use Rattle.policy.proofs.Lines.{onto, onto_order, accepted_records}
 use Rattle.policy.proofs.Theorems.{end_table, known_accepted}
-use Rattle.meaning.specs.declared.answer.Frame as minor
 use Rattle.meaning.specs.Answers.{frame_from}
 use Rattle.meaning.specs.Lookups.{default_event, frame_at, frame_count}
 use Rattle.meaning.specs.Means.{Means, minors_in}

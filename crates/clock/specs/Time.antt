@@ -7,7 +7,6 @@ use Rattle.meaning.specs.declared.answer.Frame.{Frame}
 use Rattle.meaning.specs.Lookups.{frame_at, frame_count}
 use Rattle.clock.specs.declared.time.CpuClock.{CpuClock}
 use Rattle.clock.specs.declared.time.Clock.{Clock}
-use Rattle.clock.specs.declared.time.Tick.{Tick}
 use Rattle.clock.specs.declared.time.Tick.TheVariants.{Wait, GoOn, Moved, Opened, Refused}
 use Rattle.clock.specs.declared.time.Ticked.{Ticked}
 

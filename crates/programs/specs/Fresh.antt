@@ -1,6 +1,6 @@
 -- "Fresh: .. all groups awake, lowest group and lowest subject active, nothing pending, all subjects closed to interrupts,
 -- no IRQ line masked"; and, "beside a refused start", all zeros.
-use Rattle.std.specs.Prelude.{ℕ, zero, suc, ◌+◌, Bool, true, false, cond, List, [], ◌∷◌, replicate, eqb}
+use Rattle.std.specs.Prelude.{ℕ, zero, suc, ◌+◌, Bool, true, cond, List, [], ◌∷◌, replicate, eqb}
 use Rattle.bits.specs.Sets.{none64}
 use Rattle.rows.specs.Lookups.{counts_of, partition_of, group_of}
 use Rattle.programs.specs.declared.group.Group.{Group}

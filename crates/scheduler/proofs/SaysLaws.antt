@@ -2,10 +2,10 @@
 -- call says. Of any table and state.
 -- Assumes nothing.
 use Prim.Native.Nat.{ℕ, ◌<◌, ◌≤◌}
-use mathlib.Core.Bool.{Bool, true, false, true≢false, cond}
+use mathlib.Core.Bool.{Bool, true, false, true≢false}
 use mathlib.Core.List.{List}
 use mathlib.Core.Path.{◌≡◌, refl, ap, sym, subst, ◌∙◌}
-use lib.Dec.{eqb, ltb}
+use lib.Dec.{eqb}
 use borrow.Author.Tests.{lt-ltb, le-ltb}
 use Rattle.hexline.proofs.Cond.{by_cond}
 use Rattle.meaning.specs.declared.answer.SourceEvent.{SourceEvent}
@@ -14,7 +14,7 @@ use Rattle.meaning.specs.Lookups.{source_event}
 use Rattle.clock.specs.declared.time.Clock.{Clock}
 use Rattle.clock.specs.declared.time.Tick.{Tick}
 use Rattle.clock.specs.declared.time.Tick.TheVariants as tick
-use Rattle.clock.specs.Time.{waiting, current_partition, tick_of}
+use Rattle.clock.specs.Time.{waiting, current_partition}
 use Rattle.programs.specs.declared.round.Found.{Found}
 use Rattle.programs.specs.declared.round.Found.TheVariants.{Nobody, At}
 use Rattle.programs.specs.Round.{chosen_group}
@@ -31,10 +31,9 @@ use Rattle.scheduler.specs.declared.state.State.{State}
 use Rattle.scheduler.specs.declared.state.Stepped.{Stepped}
 use Rattle.scheduler.specs.declared.event.Stopping.{Stopping}
 use Rattle.scheduler.specs.declared.event.Stopping.TheVariants.{Goes, Stops}
-use Rattle.scheduler.specs.States.{entered_on, with_clock, with_programs, with_entered, flag_stored, alone_on}
+use Rattle.scheduler.specs.States.{entered_on, with_programs, flag_stored}
 use Rattle.scheduler.specs.Entry.{enters, admitted, entry_of}
 use Rattle.scheduler.specs.Calls.{plain, new_frame, ticked_as, tick_call, stopping_of, kicked_by, stop, event_then, event_handled, hypercall_event, hypercall, advances, trap_source, trap_call, interrupt_call, called, refused}
-use Rattle.scheduler.specs.Told.{is_stopped}
 use Rattle.scheduler.specs.Says.{tells_advance, tells_kick, SaysOf, Says}
 
 -- an answer tells these two

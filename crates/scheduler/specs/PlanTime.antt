@@ -6,7 +6,6 @@ use Rattle.clock.specs.Time.{count_now, count_last, tick_of, chosen}
 use Rattle.clock.specs.History.{opens}
 use Rattle.policy.specs.declared.value.Policy.{Policy}
 use Rattle.calls.specs.declared.answer.Answer.TheVariants.{Chosen, Report}
-use Rattle.calls.specs.declared.call.Call.{Call}
 use Rattle.calls.specs.declared.call.Call.TheVariants as call
 use Rattle.calls.specs.declared.call.Heard.{Heard}
 use Rattle.calls.specs.declared.call.Heard.TheVariants as heard

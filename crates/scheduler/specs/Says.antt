@@ -10,7 +10,6 @@ use Rattle.calls.specs.declared.answer.Kick.TheVariants.{Nobody}
 use Rattle.calls.specs.declared.answer.Reason.TheVariants.{HighTrap}
 use Rattle.calls.specs.declared.answer.Answer.{Answer}
 use Rattle.calls.specs.declared.answer.Answer.TheVariants.{Enter, Idle, Wait, GoOn, Stopped, Chosen, Report, Masks, Refused}
-use Rattle.calls.specs.declared.call.Call.{Call}
 use Rattle.calls.specs.declared.call.Call.TheVariants as call
 use Rattle.scheduler.specs.declared.state.State.{State}
 use Rattle.scheduler.specs.States.{entered_on}

@@ -1,5 +1,5 @@
 -- Soundness: a fresh state is lasting, a step keeps lasting, and a lasting state is in range. So no call from the start is ever answered 80.
-use Rattle.std.specs.Prelude.{ℕ, Bool, true, List, [], ◌∷◌, ◌≡◌}
+use Rattle.std.specs.Prelude.{ℕ, true, List, [], ◌∷◌, ◌≡◌}
 use Rattle.accepted.specs.Facts.{Facts}
 use Rattle.policy.specs.declared.value.Policy.{Policy}
 use Rattle.policy.specs.Writes.{known}

@@ -1,6 +1,6 @@
 -- Laws of the start: "The scheduler takes the reader's answer apart and starts only from an accepted one", "a refused policy starts
 -- nothing", and P0 "where the policy handed in is one that no accepted text gives".
-use Rattle.std.specs.Prelude.{ℕ, true, List, ◌↔◌, ◌≡◌}
+use Rattle.std.specs.Prelude.{ℕ, List, ◌↔◌, ◌≡◌}
 use Rattle.rules.specs.declared.refusal.Refusal.{Refusal}
 use Rattle.rules.specs.declared.refusal.Refusal.TheVariants.{NotAPolicy}
 use Rattle.rules.specs.declared.refusal.Verdict.TheVariants.{Accepted, Refused}

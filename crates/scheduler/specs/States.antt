@@ -1,6 +1,6 @@
 -- The state: plan time, the programs, who is entered on each CPU, and whether the core has stopped. What a CPU that no policy has says
 -- is that nobody is entered.
-use Rattle.std.specs.Prelude.{ℕ, Bool, true, false, cond, List, get_or, set, replicate, eqb}
+use Rattle.std.specs.Prelude.{ℕ, true, false, cond, List, get_or, set, replicate, eqb}
 use Rattle.clock.specs.declared.time.Clock.{Clock}
 use Rattle.clock.specs.Time.{no_cpu, fresh_clock}
 use Rattle.programs.specs.declared.whole.Programs.{Programs}

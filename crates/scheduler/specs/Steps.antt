@@ -1,5 +1,5 @@
 -- "Refused, first that applies", 80 to 85, and one call of any policy and state whatever.
-use Rattle.std.specs.Prelude.{ℕ, Bool, true, false, cond, not, ◌&&◌, List, ltb, leb, eqb}
+use Rattle.std.specs.Prelude.{ℕ, Bool, true, false, cond, ◌&&◌, List, ltb, leb, eqb}
 use Rattle.rows.specs.Lookups.{counts_of}
 use Rattle.policy.specs.declared.value.Policy.{Policy}
 use Rattle.policy.specs.Writes.{known}

@@ -8,7 +8,6 @@ use Rattle.accepted.specs.Facts.{Facts, cpu_of_subject}
 use Rattle.clock.specs.Time.{waiting, current_partition}
 use Rattle.programs.specs.Parts.{group_at, subject_at, active_group, active_subject}
 use Rattle.programs.specs.Wakes.{NoLostWake}
-use Rattle.calls.specs.declared.call.Call.{Call}
 use Rattle.calls.specs.declared.call.Call.TheVariants as call
 use Rattle.calls.specs.declared.call.Heard.{Heard}
 use Rattle.calls.specs.declared.call.Heard.TheVariants as heard

@@ -1,7 +1,6 @@
 -- `set_bit` meets its contract: `1 << j` is `2 ^ j`.
 -- Assumes nothing.
 use native.Mathlib.Omega.{arith}
-use borrow.Author.Rules.{rules}
 use Rattle.bits.specs.Word.{bit_index, set_bit}
 use Rattle.bits.proofs.Bits.{one_shl}
 use Rattle.bits.proofs.word.set_bit.Goals as goal

@@ -1,6 +1,5 @@
 -- `test_bit` meets its contract: `(w >> j) & 1 == 1` is bit j.
 -- Assumes nothing.
-use borrow.Author.Rules.{rules}
 use Rattle.bits.proofs.Bits.{shr_and_one}
 use Rattle.bits.proofs.word.test_bit.Goals as goal
 

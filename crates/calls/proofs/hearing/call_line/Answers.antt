@@ -1,5 +1,4 @@
 -- `call_line` meets its contract: each arm is one of the three ways of `CallLaws`, by the line read.
-use borrow.Author.Rules.{rules}
 use mathlib.Core.Path.{refl, sym, ◌∙◌}
 use Rattle.calls.proofs.LineBytes.{whole_long}
 use Rattle.calls.proofs.CallLaws.{line_whole, line_ill_formed, line_none}

@@ -1,5 +1,4 @@
 -- `heard_bytes` meets its contract: of each count from 1 to 4 the bytes looked at are the line's; any other is of no call.
-use borrow.Author.Rules.{rules}
 use mathlib.Core.Path.{sym, ◌∙◌}
 use Rattle.hexline.specs.Lines.{byte_at}
 use Rattle.calls.proofs.HearLaws.{of_one, of_two, of_three, of_four, of_other}

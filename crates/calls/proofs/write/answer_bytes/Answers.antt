@@ -1,5 +1,4 @@
 -- `answer_bytes` meets its contract: each arm is one case of `bytes_of`.
-use borrow.Author.Rules.{rules}
 use Rattle.calls.specs.Answers.{bytes_of}
 use Rattle.calls.proofs.write.answer_bytes.Goals as goal
 

@@ -1,5 +1,4 @@
 -- `bits_of` meets its contract: by the eight cases of three bits.
-use borrow.Author.Rules.{rules}
 use mathlib.Core.Bool.{Bool, true, false}
 use mathlib.Core.Path.{◌≡◌, refl}
 use Prim.Native.Nat.{◌+◌, ◌*◌, ◌<◌}

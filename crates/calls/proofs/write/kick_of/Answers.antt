@@ -1,5 +1,4 @@
 -- `kick_of` meets its contract: each arm is one case of `kick_of`.
-use borrow.Author.Rules.{rules}
 use Rattle.calls.specs.Answers.{kick_of}
 use Rattle.calls.proofs.write.kick_of.Goals as goal
 

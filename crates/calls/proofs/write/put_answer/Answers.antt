@@ -1,5 +1,4 @@
 -- `put_answer` meets its contract: the line that is put is the answer's bytes.
-use borrow.Author.Rules.{rules}
 use Rattle.calls.proofs.write.put_answer.Goals as goal
 
 pub returns : goal.returns

@@ -1,5 +1,4 @@
 -- `vector_of` meets its contract: each arm is one case of `vector_of`.
-use borrow.Author.Rules.{rules}
 use Rattle.calls.specs.Answers.{vector_of}
 use Rattle.calls.proofs.write.vector_of.Goals as goal
 

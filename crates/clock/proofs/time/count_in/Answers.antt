@@ -1,5 +1,5 @@
 -- `count_in` meets its contract: past the last partition the read finds 0.
-use borrow.Author.Rules.{rules, length_unmapped}
+use borrow.Author.Rules.{length_unmapped}
 use mathlib.Core.Path.{◌≡◌}
 use lib.ListN.{length}
 use Rattle.clock.proofs.Laws.{read_out}

@@ -1,5 +1,4 @@
 -- `first` meets its contract: the whole length of minor frame 0 is left.
-use borrow.Author.Rules.{rules}
 use Rattle.clock.specs.Time.{first}
 use Rattle.clock.proofs.time.first.Goals as goal
 

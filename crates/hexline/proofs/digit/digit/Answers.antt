@@ -1,5 +1,4 @@
 -- `digit` meets its contract: each return is one case of `digit_of`, by the tests passed.
-use borrow.Author.Rules.{rules}
 use borrow.Author.Tests.{lt-ltb, le-ltb, le-leb, lt-leb}
 use Rattle.hexline.specs.Digits.{digit_of}
 use Rattle.hexline.proofs.digit.digit.Goals as goal

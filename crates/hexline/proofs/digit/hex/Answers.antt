@@ -1,5 +1,4 @@
 -- `hex` meets its contract: by the test whether the value is below 10.
-use borrow.Author.Rules.{rules}
 use borrow.Author.Tests.{lt-ltb, le-ltb}
 use Rattle.hexline.specs.Digits.{hex_of}
 use Rattle.hexline.proofs.digit.hex.Goals as goal

@@ -1,5 +1,4 @@
 -- `byte_at` meets its contract: byte k is spelled by the digits at 2 * k.
-use borrow.Author.Rules.{rules}
 use mathlib.Core.Path.{refl, sym, ◌∙◌}
 use Rattle.hexline.proofs.ByteLaws.{byte_past, byte_spelled}
 use Rattle.hexline.proofs.read.byte_at.Goals as goal

@@ -1,5 +1,4 @@
 -- `byte_of` meets its contract: both values are below 16 where both bytes are digits.
-use borrow.Author.Rules.{rules}
 use native.Mathlib.Omega.{arith}
 use mathlib.Core.Path.{◌≡◌, sym}
 use Prim.Native.Nat.{◌+◌, ◌*◌, ◌<◌}

@@ -1,9 +1,9 @@
 -- `ill_formed` meets its contract. The loop's invariant: the line's length is what was passed and that of what is left.
 use native.Mathlib.Omega.{arith}
-use Prim.Native.Nat.{◌≤◌, ◌+◌, ◌-◌, suc}
+use Prim.Native.Nat.{◌+◌, suc}
 use mathlib.Core.Path.{◌≡◌, sym}
 use native.Mathlib.Numerals.{add-one}
-use lib.ListN.{length, drop}
+use lib.ListN.{drop}
 use Rattle.hexline.specs.Lines.{line_length}
 use Rattle.hexline.proofs.LineLaws.{search_stop, search_more, search_end, ended_here, ended_never}
 use Rattle.hexline.proofs.read.ill_formed.Goals as goal

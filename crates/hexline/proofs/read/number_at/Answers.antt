@@ -1,5 +1,4 @@
 -- `number_at` meets its contract: two bytes, or 0 where both are past the end.
-use borrow.Author.Rules.{rules}
 use native.Mathlib.Omega.{arith}
 use mathlib.Core.Path.{refl}
 use Prim.Native.Nat.{◌+◌}

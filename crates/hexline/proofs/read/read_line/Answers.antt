@@ -1,5 +1,4 @@
 -- `read_line` meets its contract: each return is one of the three ways of `LineLaws`, by the byte behind the digits.
-use borrow.Author.Rules.{rules}
 use mathlib.Core.Path.{refl, sym, ◌∙◌}
 use native.Mathlib.Numerals.{add-one}
 use Rattle.hexline.proofs.LineLaws.{line_unended, line_other, line_digits}

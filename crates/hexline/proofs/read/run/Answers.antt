@@ -1,10 +1,9 @@
 -- `run` meets its contract. The loop's invariant: the run is what was passed and the run of what is left.
 use native.Mathlib.Omega.{arith}
-use borrow.Author.Rules.{rules}
-use Prim.Native.Nat.{◌≤◌, ◌+◌, ◌-◌, suc}
+use Prim.Native.Nat.{◌+◌, suc}
 use mathlib.Core.Path.{◌≡◌, sym, ◌∙◌}
 use native.Mathlib.Numerals.{add-one}
-use lib.ListN.{length, drop}
+use lib.ListN.{drop}
 use Rattle.hexline.specs.Run.{run_of}
 use Rattle.hexline.proofs.RunLaws.{run_stop, run_more, run_end}
 use Rattle.hexline.proofs.read.run.Goals as goal

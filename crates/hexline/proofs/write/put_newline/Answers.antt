@@ -1,5 +1,4 @@
 -- `put_newline` meets its contract: one store, or none.
-use borrow.Author.Rules.{rules}
 use native.Mathlib.Omega.{arith}
 use mathlib.Core.Path.{sym}
 use Prim.Native.Nat.{◌+◌, ◌≤◌, ◌<◌}

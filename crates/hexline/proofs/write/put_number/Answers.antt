@@ -1,5 +1,4 @@
 -- `put_number` meets its contract: two bytes laid one after the other, or none.
-use borrow.Author.Rules.{rules}
 use native.Mathlib.Omega.{arith}
 use mathlib.Core.Path.{sym}
 use Prim.Native.Nat.{◌+◌, ◌≤◌, ◌<◌, ◌/◌, ◌%◌}

@@ -1,5 +1,4 @@
 -- `route_from` meets its contract: the fields of the line.
-use borrow.Author.Rules.{rules}
 use Rattle.meaning.specs.Answers.{route_from}
 use Rattle.meaning.proofs.line.route_from.Goals as goal
 

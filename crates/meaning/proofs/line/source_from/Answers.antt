@@ -1,5 +1,4 @@
 -- `source_from` meets its contract: its action and its signal.
-use borrow.Author.Rules.{rules}
 use Rattle.meaning.specs.Answers.{source_from}
 use Rattle.meaning.proofs.line.source_from.Goals as goal
 

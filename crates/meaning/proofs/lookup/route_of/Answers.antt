@@ -1,5 +1,4 @@
 -- `route_of` meets its contract: nothing without a row, else what the line says.
-use borrow.Author.Rules.{rules}
 use mathlib.Core.Path.{refl, sym, ◌∙◌}
 use borrow.Author.Tests.{eq-eqb, ne_eqb}
 use Rattle.meaning.specs.Lookups.{route_of}

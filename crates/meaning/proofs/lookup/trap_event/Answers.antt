@@ -1,5 +1,4 @@
 -- `trap_event` meets its contract: the default without a row, else the event of the line.
-use borrow.Author.Rules.{rules}
 use mathlib.Core.Path.{refl, sym, ◌∙◌}
 use borrow.Author.Tests.{eq-eqb, ne_eqb}
 use Rattle.meaning.specs.Lookups.{trap_event}

@@ -1,5 +1,4 @@
 -- `known` meets its contract: a policy is its table.
-use borrow.Author.Rules.{rules}
 use mathlib.Core.Path.{sym}
 use Rattle.policy.proofs.WriteLaws.{known_by_rows}
 use Rattle.policy.proofs.own_text.known.Goals as goal

@@ -1,10 +1,7 @@
 -- `same_rows` meets its contract. The loop's invariant: the tables are as long as each other, and agree exactly where they agree from here on.
 use native.Mathlib.Omega.{arith}
-use borrow.Author.Rules.{rules}
-use Prim.Native.Nat.{◌≤◌, ◌-◌}
-use mathlib.Core.Path.{◌≡◌, refl, sym}
-use lib.ListN.{length}
-use Rattle.policy.proofs.SameNumbers.{SameFrom, same_short, same_on, same_other, same_all}
+use mathlib.Core.Path.{refl, sym}
+use Rattle.policy.proofs.SameNumbers.{same_short, same_on, same_other, same_all}
 use Rattle.policy.proofs.own_text.same_rows.Goals as goal
 
 pub returns-then-a-b : goal.returns-then-a-b

@@ -1,5 +1,4 @@
 -- `handed_up` meets its contract: the policy beside it is all zeros.
-use borrow.Author.Rules.{rules}
 use Rattle.policy.specs.Reads.{handed_up}
 use Rattle.policy.proofs.reader.handed_up.Goals as goal
 

@@ -1,5 +1,4 @@
 -- `no_record` meets its contract: each arm is one case of `no_record`.
-use borrow.Author.Rules.{rules}
 use mathlib.Core.Path.{◌∙◌}
 use Rattle.policy.specs.Reads.{no_record}
 use Rattle.policy.proofs.reader.no_record.Goals as goal

@@ -1,9 +1,8 @@
 -- `read` meets its contract. The loop's invariant, `Going`: the table is tied to the lines read, and what is left is read as the whole.
 use native.Mathlib.Omega.{arith}
 use mathlib.Core.Logic.{⊎_elim}
-use borrow.Author.Rules.{rules}
 use mathlib.Core.Path.{◌≡◌, refl, sym, ap, ◌∙◌}
-use Prim.Native.Nat.{◌-◌, ◌+◌}
+use Prim.Native.Nat.{◌+◌}
 use lib.ListN.{drop}
 use Rattle.records.specs.RecordLines.{record_line}
 use Rattle.records.specs.declared.read.RecordLine.TheVariants.{Got}

@@ -1,5 +1,4 @@
 -- `refused` meets its contract: the policy beside it is all zeros.
-use borrow.Author.Rules.{rules}
 use Rattle.policy.specs.Reads.{refusal}
 use Rattle.policy.proofs.reader.refused.Goals as goal
 

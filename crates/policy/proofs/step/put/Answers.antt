@@ -1,5 +1,4 @@
 -- `put` meets its contract: the row is set, and the progress is made of what the callees give.
-use borrow.Author.Rules.{rules}
 use mathlib.Core.Path.{◌∙◌}
 use Rattle.policy.specs.Steps.{progress_after}
 use Rattle.policy.proofs.step.put.Goals as goal

@@ -1,5 +1,4 @@
 -- `line_size` meets its contract: a line has two digits for each byte and a newline, and a record eight bytes at most.
-use borrow.Author.Rules.{rules}
 use native.Mathlib.Omega.{arith}
 use Rattle.hexline.proofs.ByteLaws.{text_length}
 use Rattle.records.specs.Kinds.{bytes_of}

@@ -1,5 +1,4 @@
 -- `put_at` meets its contract: where there is no row there is no line, and nothing is laid; otherwise the line is the record's.
-use borrow.Author.Rules.{rules}
 use mathlib.Core.Path.{ap, ◌∙◌}
 use Rattle.policy.proofs.WriteLaws.{texts_one, line_none, line_there, put_none}
 use Rattle.policy.specs.Writes.{texts_of}

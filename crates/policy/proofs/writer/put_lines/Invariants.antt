@@ -1,10 +1,7 @@
 -- `put_lines` meets its contract. The loop's invariant: the lines below the place are laid from the buffer's start on.
-use native.Mathlib.Omega.{arith}
-use borrow.Author.Rules.{rules}
 use Prim.Native.Nat.{◌≤◌, ◌-◌}
 use Rattle.rows.specs.Places.{row_count}
-use Rattle.hexline.proofs.LayLaws.{laid_length, laid_is}
-use Rattle.policy.proofs.WriteLaws.{LaidBelow, below_start, below_on, below_all}
+use Rattle.policy.proofs.WriteLaws.{LaidBelow}
 use Rattle.policy.proofs.writer.put_lines.Given as goal
 
 abbrev pub invariant-loop-i : goal.invariant-loop-i

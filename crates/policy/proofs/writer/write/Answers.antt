@@ -1,9 +1,7 @@
 -- `write` meets its contract: a buffer with room for the text has room for the lines, and then for the last one.
-use borrow.Author.Rules.{rules}
 use native.Mathlib.Omega.{arith}
 use mathlib.Core.Bool.{true}
 use mathlib.Core.Path.{◌≡◌, ◌∙◌}
-use borrow.Author.Tests.{not-true, not-false}
 use Rattle.policy.specs.Writes.{known}
 use Rattle.policy.proofs.WriteLaws.{size_lines, size_bytes, lines_fit, unknown, no_room, wrote, known_by_rows}
 use Rattle.policy.proofs.writer.write.Goals as goal

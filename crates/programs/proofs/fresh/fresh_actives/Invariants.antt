@@ -1,10 +1,8 @@
 -- `fresh_actives` meets its contract: before each turn, the places so far are filled.
 use mathlib.Core.Path.{◌≡◌}
-use native.Mathlib.Omega.{arith}
-use borrow.Author.Rules.{rules}
 use Prim.Native.Nat.{◌≤◌, ◌-◌}
-use Rattle.programs.specs.Fresh.{lowest_group, fresh_actives}
-use Rattle.programs.proofs.CodeLaws.{filled, filled_none, filled_more, filled_all}
+use Rattle.programs.specs.Fresh.{lowest_group}
+use Rattle.programs.proofs.CodeLaws.{filled}
 use Rattle.programs.proofs.fresh.fresh_actives.Given as goal
 
 abbrev pub invariant-loop-partition : goal.invariant-loop-partition

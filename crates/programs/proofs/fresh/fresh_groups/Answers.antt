@@ -1,11 +1,7 @@
 -- `fresh_groups` meets its contract: before each turn, the places so far are filled.
-use mathlib.Core.Path.{◌≡◌}
 use native.Mathlib.Omega.{arith}
-use borrow.Author.Rules.{rules}
-use Prim.Native.Nat.{◌≤◌, ◌-◌}
-use mathlib.Core.Bool.{true}
 use Rattle.programs.specs.Fresh.{fresh_group, fresh_groups}
-use Rattle.programs.proofs.CodeLaws.{filled, filled_none, filled_more, filled_all}
+use Rattle.programs.proofs.CodeLaws.{filled_none, filled_more, filled_all}
 use Rattle.programs.proofs.fresh.fresh_groups.Goals as goal
 
 pub loop-group-init : goal.loop-group-init

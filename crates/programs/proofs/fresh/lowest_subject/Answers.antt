@@ -1,12 +1,7 @@
 -- `lowest_subject` meets its contract: before each turn, the search from here on finds what the whole search finds.
-use mathlib.Core.Path.{◌≡◌, sym, ◌∙◌}
-use native.Mathlib.Omega.{arith}
-use borrow.Author.Rules.{rules}
-use Prim.Native.Nat.{◌-◌}
-use lib.Dec.{eqb}
+use mathlib.Core.Path.{sym, ◌∙◌}
 use borrow.Author.Tests.{eq-eqb, ne_eqb}
-use Rattle.rows.specs.Lookups.{group_of}
-use Rattle.programs.specs.Fresh.{lowest_from, lowest_subject}
+use Rattle.programs.specs.Fresh.{lowest_subject}
 use Rattle.programs.proofs.CodeLaws.{lowest_start, lowest_hit, lowest_pass, lowest_none}
 use Rattle.programs.proofs.fresh.lowest_subject.Goals as goal
 

@@ -1,5 +1,4 @@
 -- `after` meets its contract: the definition's one test is answered by the first of the code's two, or else by the second.
-use borrow.Author.Rules.{rules}
 use native.Mathlib.Omega.{arith}
 use Prim.Native.Nat.{◌+◌}
 use borrow.Author.Tests.{lt-ltb, le-ltb}

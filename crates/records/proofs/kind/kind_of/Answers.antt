@@ -1,5 +1,4 @@
 -- `kind_of` meets its contract: each arm is one case of `kind_of`.
-use borrow.Author.Rules.{rules}
 use Rattle.records.specs.Kinds.{kind_of}
 use Rattle.records.proofs.kind.kind_of.Goals as goal
 

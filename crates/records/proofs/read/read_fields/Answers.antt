@@ -1,5 +1,4 @@
 -- `read_fields` meets its contract: each arm is one case of `record_as`, by the keys; the last by none of them.
-use borrow.Author.Rules.{rules}
 use borrow.Author.Tests.{ne_eqb}
 use Rattle.hexline.specs.Lines.{byte_at, number_at}
 use Rattle.records.specs.Kinds.{record_as}

@@ -1,5 +1,4 @@
 -- `read_group` meets its contract: the fields are the line's bytes, in their order.
-use borrow.Author.Rules.{rules}
 use Rattle.hexline.specs.Lines.{byte_at}
 use Rattle.records.specs.Kinds.{group_in}
 use Rattle.records.proofs.read.read_group.Goals as goal

@@ -1,7 +1,4 @@
 -- `read_record` meets its contract: each return is one of the three ways of `LineLaws`, by the line read and its count of bytes.
-use borrow.Author.Rules.{rules}
-use native.Mathlib.Omega.{arith}
-use mathlib.Core.Logic.{⊎_elim}
 use mathlib.Core.Path.{refl, sym, ap, ◌∙◌}
 use Rattle.hexline.specs.Lines.{byte_at}
 use Rattle.records.specs.Kinds.{size_of, record_of}

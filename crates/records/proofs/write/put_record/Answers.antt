@@ -1,5 +1,4 @@
 -- `put_record` meets its contract: the first of the padded bytes, as many as the record has, are the record's.
-use borrow.Author.Rules.{rules}
 use native.Mathlib.Omega.{arith}
 use native.Mathlib.Nat.{sub-zero}
 use mathlib.Core.Path.{◌≡◌}

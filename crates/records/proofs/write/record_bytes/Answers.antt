@@ -1,5 +1,4 @@
 -- `record_bytes` meets its contract: each arm is one case of `bytes_of`, with zeros behind it.
-use borrow.Author.Rules.{rules}
 use Rattle.records.specs.Kinds.{bytes_of, padded}
 use Rattle.records.proofs.write.record_bytes.Goals as goal
 

@@ -1,5 +1,4 @@
 -- `record_size` meets its contract: the size of the record's kind is the count of its bytes.
-use borrow.Author.Rules.{rules}
 use mathlib.Core.Path.{sym, ap, ◌∙◌}
 use Rattle.records.specs.Kinds.{size_of}
 use Rattle.records.proofs.KindLaws.{size}

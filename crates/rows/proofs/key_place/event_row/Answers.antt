@@ -1,5 +1,4 @@
 -- `event_row` meets its contract: the row at the place, where the key is in range.
-use borrow.Author.Rules.{rules}
 use mathlib.Core.Path.{refl}
 use Rattle.rows.specs.KeyPlaces.{event_row}
 use Rattle.rows.proofs.key_place.event_row.Goals as goal

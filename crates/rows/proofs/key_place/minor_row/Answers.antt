@@ -1,5 +1,4 @@
 -- `minor_row` meets its contract: the row at the place, where the key is in range.
-use borrow.Author.Rules.{rules}
 use mathlib.Core.Path.{refl}
 use native.Mathlib.Omega.{arith}
 use Rattle.rows.specs.Places.{frames_place}

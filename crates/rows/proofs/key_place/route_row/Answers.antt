@@ -1,5 +1,4 @@
 -- `route_row` meets its contract: the row at the place; a byte is in range.
-use borrow.Author.Rules.{rules}
 use mathlib.Core.Path.{refl}
 use native.Mathlib.Omega.{arith}
 use borrow.Author.Tests.{lt-ltb}

@@ -1,5 +1,4 @@
 -- `target_row` meets its contract: the row at the place, where the key is in range.
-use borrow.Author.Rules.{rules}
 use mathlib.Core.Path.{refl}
 use Rattle.rows.specs.KeyPlaces.{target_row}
 use Rattle.rows.proofs.key_place.target_row.Goals as goal

@@ -1,5 +1,4 @@
 -- `trap_row` meets its contract: the row at the place, where the key is in range.
-use borrow.Author.Rules.{rules}
 use mathlib.Core.Path.{refl}
 use Rattle.rows.specs.KeyPlaces.{trap_row}
 use Rattle.rows.proofs.key_place.trap_row.Goals as goal

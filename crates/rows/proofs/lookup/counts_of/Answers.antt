@@ -1,5 +1,4 @@
 -- `counts_of` meets its contract: the header is the first row.
-use borrow.Author.Rules.{rules}
 use mathlib.Core.Path.{refl, ap, ◌∙◌}
 use Rattle.rows.specs.Lookups.{counts_of}
 use Rattle.rows.specs.Rows.{counts_in}

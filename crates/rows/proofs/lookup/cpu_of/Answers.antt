@@ -1,5 +1,4 @@
 -- `cpu_of` meets its contract: the last byte of the partition's row.
-use borrow.Author.Rules.{rules}
 use mathlib.Core.Path.{refl}
 use Rattle.rows.specs.Lookups.{cpu_of}
 use Rattle.rows.proofs.lookup.cpu_of.Goals as goal

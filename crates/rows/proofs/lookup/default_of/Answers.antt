@@ -1,5 +1,4 @@
 -- `default_of` meets its contract: the last byte of the subject's row.
-use borrow.Author.Rules.{rules}
 use mathlib.Core.Path.{refl}
 use Rattle.rows.specs.Lookups.{default_of}
 use Rattle.rows.proofs.lookup.default_of.Goals as goal

@@ -1,5 +1,4 @@
 -- `group_given` meets its contract: its row is not 0.
-use borrow.Author.Rules.{rules}
 use mathlib.Core.Path.{refl}
 use Rattle.rows.specs.Lookups.{given, group_given}
 use Rattle.rows.proofs.lookup.group_given.Goals as goal

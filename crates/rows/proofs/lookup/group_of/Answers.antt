@@ -1,5 +1,4 @@
 -- `group_of` meets its contract: the byte before the last of the subject's row.
-use borrow.Author.Rules.{rules}
 use mathlib.Core.Path.{refl}
 use Rattle.rows.specs.Lookups.{group_of}
 use Rattle.rows.proofs.lookup.group_of.Goals as goal

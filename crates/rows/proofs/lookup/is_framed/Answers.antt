@@ -1,5 +1,4 @@
 -- `is_framed` meets its contract: the first of its eight rows is not 0.
-use borrow.Author.Rules.{rules}
 use mathlib.Core.Path.{refl}
 use Rattle.rows.specs.Lookups.{framed, given}
 use Rattle.rows.proofs.lookup.is_framed.Goals as goal

@@ -1,5 +1,4 @@
 -- `length_at` meets its contract: the last two bytes of the row.
-use borrow.Author.Rules.{rules}
 use mathlib.Core.Path.{refl}
 use native.Mathlib.Omega.{arith}
 use Rattle.rows.specs.Lookups.{length_at}

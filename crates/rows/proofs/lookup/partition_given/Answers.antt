@@ -1,5 +1,4 @@
 -- `partition_given` meets its contract: its row is not 0.
-use borrow.Author.Rules.{rules}
 use mathlib.Core.Path.{refl}
 use Rattle.rows.specs.Lookups.{given, partition_given}
 use Rattle.rows.proofs.lookup.partition_given.Goals as goal

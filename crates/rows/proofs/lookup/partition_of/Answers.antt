@@ -1,5 +1,4 @@
 -- `partition_of` meets its contract: the last byte of the group's row.
-use borrow.Author.Rules.{rules}
 use mathlib.Core.Path.{refl}
 use Rattle.rows.specs.Lookups.{partition_of}
 use Rattle.rows.proofs.lookup.partition_of.Goals as goal

@@ -1,5 +1,4 @@
 -- `row_given` meets its contract: a row that is not 0.
-use borrow.Author.Rules.{rules}
 use mathlib.Core.Path.{refl}
 use Rattle.rows.specs.Lookups.{given}
 use Rattle.rows.proofs.lookup.row_given.Goals as goal

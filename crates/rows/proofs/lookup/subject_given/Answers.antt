@@ -1,5 +1,4 @@
 -- `subject_given` meets its contract: its row is not 0.
-use borrow.Author.Rules.{rules}
 use mathlib.Core.Path.{refl}
 use Rattle.rows.specs.Lookups.{given, subject_given}
 use Rattle.rows.proofs.lookup.subject_given.Goals as goal

@@ -1,5 +1,4 @@
 -- `place_of` meets its contract: each arm is one case of `place_of`; a minor frame's is decided by the same test.
-use borrow.Author.Rules.{rules}
 use borrow.Author.Tests.{lt-ltb, le-ltb}
 use Rattle.rows.specs.Places.{place_of}
 use Rattle.rows.proofs.place.place_of.Goals as goal

@@ -1,5 +1,4 @@
 -- `later_record_at` meets its contract: each return is a line of the part that the tests passed leave.
-use borrow.Author.Rules.{rules}
 use mathlib.Core.Path.{◌∙◌, ap, sym}
 use Rattle.records.specs.declared.kind.Record.TheVariants.{Event, Trap, Target, Route}
 use Rattle.rows.proofs.PlaceLaws.{event_later, trap_later, target_later, route_later, nothing_later}

@@ -1,5 +1,4 @@
 -- `pack` meets its contract: each arm is one case of `row_of`.
-use borrow.Author.Rules.{rules}
 use Rattle.rows.specs.Rows.{row_of}
 use Rattle.rows.proofs.row.pack.Goals as goal
 

@@ -1,5 +1,4 @@
 -- `record_at` meets its contract: each return is a line of the part that the tests passed leave.
-use borrow.Author.Rules.{rules}
 use mathlib.Core.Path.{◌∙◌, ap, sym}
 use Rattle.records.specs.declared.kind.Record.TheVariants.{Header, Partition, Group, Subject, Frame}
 use Rattle.rows.proofs.PlaceLaws.{header_there, partition_there, group_there, subject_there, frame_there, later_there}

@@ -1,5 +1,4 @@
 -- `row_at` meets its contract: past the end `get_or` gives 0 too.
-use borrow.Author.Rules.{rules}
 use mathlib.Core.Path.{refl, sym}
 use lib.ListN.{get_or-eq_default}
 use Rattle.rows.proofs.table.row_at.Goals as goal

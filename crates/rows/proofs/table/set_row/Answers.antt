@@ -1,5 +1,4 @@
 -- `set_row` meets its contract: past the end `set` changes nothing either.
-use borrow.Author.Rules.{rules}
 use mathlib.Core.Path.{sym}
 use lib.Seq.{set_out}
 use Rattle.rows.proofs.table.set_row.Goals as goal

@@ -1,5 +1,4 @@
 -- `all_given` meets its contract: the rows of each kind, from where its part begins.
-use borrow.Author.Rules.{rules}
 use Rattle.rows.specs.Lookups.{partition_given, group_given, subject_given}
 use Rattle.rules.proofs.ends.all_given.Goals as goal
 

@@ -1,13 +1,7 @@
 -- `cpus_even` meets its contract: before each turn, the CPUs so far have the sum of CPU 0.
-use borrow.Author.Rules.{rules}
 use native.Mathlib.Omega.{arith}
-use mathlib.Core.Path.{sym, ◌∙◌, ◌≡◌}
+use mathlib.Core.Path.{sym, ◌∙◌}
 use borrow.Author.Tests.{eq-eqb, ne_eqb}
-use Prim.Native.Nat.{◌≤◌, ◌-◌}
-use mathlib.Core.Bool.{true}
-use lib.Dec.{eqb}
-use Rattle.rules.specs.Rules.{all_below}
-use Rattle.rules.specs.Plan.{period_by}
 use Rattle.rules.proofs.Below.{below_none, below_more, below_stop, below_end}
 use Rattle.rules.proofs.ends.cpus_even.Goals as goal
 

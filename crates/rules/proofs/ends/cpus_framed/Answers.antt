@@ -1,12 +1,6 @@
 -- `cpus_framed` meets its contract: before each turn, the CPUs so far have a minor frame.
-use borrow.Author.Rules.{rules}
 use native.Mathlib.Omega.{arith}
-use mathlib.Core.Path.{sym, ◌∙◌, ◌≡◌}
-use borrow.Author.Tests.{not-true, not-false}
-use Prim.Native.Nat.{◌≤◌, ◌-◌}
-use mathlib.Core.Bool.{true}
-use Rattle.rules.specs.Rules.{all_below}
-use Rattle.rows.specs.Lookups.{framed}
+use mathlib.Core.Path.{sym, ◌∙◌}
 use Rattle.rules.proofs.Below.{below_none, below_more, below_stop, below_end}
 use Rattle.rules.proofs.ends.cpus_framed.Goals as goal
 

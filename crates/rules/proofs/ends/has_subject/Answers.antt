@@ -1,13 +1,7 @@
 -- `has_subject` meets its contract: before each turn, no subject so far is in the group.
-use borrow.Author.Rules.{rules}
 use native.Mathlib.Omega.{arith}
-use mathlib.Core.Path.{sym, ◌∙◌, ◌≡◌}
+use mathlib.Core.Path.{sym, ◌∙◌}
 use borrow.Author.Tests.{eq-eqb, ne_eqb}
-use Prim.Native.Nat.{◌≤◌, ◌-◌}
-use mathlib.Core.Bool.{false}
-use lib.Dec.{eqb}
-use Rattle.rules.specs.Rules.{any_below}
-use Rattle.rows.specs.Lookups.{group_of}
 use Rattle.rules.proofs.Below.{any_none, any_more, any_stop, any_end}
 use Rattle.rules.proofs.ends.has_subject.Goals as goal
 

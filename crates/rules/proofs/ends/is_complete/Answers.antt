@@ -1,5 +1,4 @@
 -- `is_complete` meets its contract: one function for each test of `complete`, over the counts that the table gives.
-use borrow.Author.Rules.{rules}
 use Rattle.rules.specs.Rules.{has_group, has_subject, all_given, all_used, all_framed, complete}
 use Rattle.rules.specs.Tables.{said_by}
 use Rattle.rules.proofs.ends.is_complete.Goals as goal

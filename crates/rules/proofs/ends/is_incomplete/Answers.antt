@@ -1,5 +1,4 @@
 -- `is_incomplete` meets its contract: the last kind alone is asked.
-use borrow.Author.Rules.{rules}
 use Rattle.rules.specs.Rules.{incomplete}
 use Rattle.rules.proofs.OtherKinds.{inner_passes}
 use borrow.Enum.Refused.{opened}

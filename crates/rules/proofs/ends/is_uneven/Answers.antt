@@ -1,5 +1,4 @@
 -- `is_uneven` meets its contract: the last kind alone is asked.
-use borrow.Author.Rules.{rules}
 use Rattle.rules.specs.Rules.{even, uneven}
 use Rattle.rules.specs.Tables.{said_by}
 use Rattle.rules.proofs.OtherKinds.{inner_passes}

@@ -1,13 +1,6 @@
 -- `majors_even` meets its contract: before each turn, in the majors so far the CPUs have one sum.
-use borrow.Author.Rules.{rules}
 use native.Mathlib.Omega.{arith}
-use mathlib.Core.Path.{sym, ◌∙◌, ◌≡◌}
-use borrow.Author.Tests.{not-true, not-false}
-use Prim.Native.Nat.{◌≤◌, ◌-◌}
-use mathlib.Core.Bool.{true}
-use lib.Dec.{eqb}
-use Rattle.rules.specs.Rules.{all_below}
-use Rattle.rules.specs.Plan.{period_by}
+use mathlib.Core.Path.{sym, ◌∙◌}
 use Rattle.rules.proofs.Below.{below_none, below_more, below_stop, below_end}
 use Rattle.rules.proofs.ends.majors_even.Goals as goal
 

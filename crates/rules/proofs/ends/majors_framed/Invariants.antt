@@ -1,13 +1,9 @@
 -- `majors_framed` meets its contract: before each turn, in the majors so far each CPU has a minor frame.
-use borrow.Author.Rules.{rules}
-use native.Mathlib.Omega.{arith}
-use mathlib.Core.Path.{sym, ◌∙◌, ◌≡◌}
-use borrow.Author.Tests.{not-true, not-false}
+use mathlib.Core.Path.{◌≡◌}
 use Prim.Native.Nat.{◌≤◌, ◌-◌}
 use mathlib.Core.Bool.{true}
 use Rattle.rules.specs.Rules.{all_below}
 use Rattle.rows.specs.Lookups.{framed}
-use Rattle.rules.proofs.Below.{below_none, below_more, below_stop, below_end}
 use Rattle.rules.proofs.ends.majors_framed.Given as goal
 
 abbrev pub invariant-loop-m : goal.invariant-loop-m

@@ -1,13 +1,6 @@
 -- `partitions_used` meets its contract: before each turn, the partitions so far have a group.
-use borrow.Author.Rules.{rules}
 use native.Mathlib.Omega.{arith}
-use mathlib.Core.Path.{sym, ◌∙◌, ◌≡◌}
-use borrow.Author.Tests.{not-true, not-false}
-use Prim.Native.Nat.{◌≤◌, ◌-◌}
-use mathlib.Core.Bool.{true}
-use lib.Dec.{eqb}
-use Rattle.rules.specs.Rules.{all_below, any_below}
-use Rattle.rows.specs.Lookups.{partition_of}
+use mathlib.Core.Path.{sym, ◌∙◌}
 use Rattle.rules.proofs.Below.{below_none, below_more, below_stop, below_end}
 use Rattle.rules.proofs.ends.partitions_used.Goals as goal
 

@@ -1,13 +1,9 @@
 -- `rows_given` meets its contract: before each turn, the rows so far are there.
-use borrow.Author.Rules.{rules}
-use native.Mathlib.Omega.{arith}
-use mathlib.Core.Path.{sym, ◌∙◌, ◌≡◌}
-use borrow.Author.Tests.{not-true, not-false}
+use mathlib.Core.Path.{◌≡◌}
 use Prim.Native.Nat.{◌≤◌, ◌+◌, ◌-◌}
 use mathlib.Core.Bool.{true}
 use Rattle.rules.specs.Rules.{all_below}
 use Rattle.rows.specs.Lookups.{given}
-use Rattle.rules.proofs.Below.{below_none, below_more, below_stop, below_end}
 use Rattle.rules.proofs.ends.rows_given.Given as goal
 
 abbrev pub invariant-loop-i : goal.invariant-loop-i

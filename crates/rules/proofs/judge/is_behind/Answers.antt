@@ -1,5 +1,4 @@
 -- `is_behind` meets its contract: each arm is one case of `behind`, and the last one is seven of them.
-use borrow.Author.Rules.{rules}
 use native.Mathlib.Omega.{arith}
 use Rattle.rules.specs.Tables.{behind}
 use Rattle.rows.specs.Places.{frames_place}

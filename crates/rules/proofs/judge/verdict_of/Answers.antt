@@ -1,8 +1,6 @@
 -- `verdict_of` meets its contract: the rules of `judged` are asked in its order, one function for each.
 use Rattle.records.specs.Kinds.{kind_of}
-use borrow.Author.Rules.{rules}
 use mathlib.Core.Path.{refl, sym, ◌∙◌, ◌≡◌}
-use borrow.Author.Tests.{not-true, not-false}
 use mathlib.Core.Bool.{true, false}
 use Rattle.rules.specs.Rules.{wrong_kind, in_range, misplaced, incomplete, uneven, judged}
 use Rattle.rules.specs.Tables.{said_by, behind}

@@ -1,5 +1,4 @@
 -- `cpu_of_subject` meets its contract: three lookups, one after another.
-use borrow.Author.Rules.{rules}
 use Rattle.rules.specs.Rules.{cpu_of_subject}
 use Rattle.rules.specs.Tables.{said_by}
 use Rattle.rules.proofs.misplaced.cpu_of_subject.Goals as goal

@@ -1,5 +1,4 @@
 -- `event_misplaced` meets its contract: one function for each test of `event_misplaced`.
-use borrow.Author.Rules.{rules}
 use Rattle.rules.specs.Rules.{event_misplaced}
 use Rattle.rules.proofs.misplaced.event_misplaced.Goals as goal
 

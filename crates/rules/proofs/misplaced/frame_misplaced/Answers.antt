@@ -1,5 +1,4 @@
 -- `frame_misplaced` meets its contract: the tests of `frame_misplaced`, by lookups.
-use borrow.Author.Rules.{rules}
 use Rattle.rules.specs.Rules.{frame_misplaced}
 use Rattle.rules.specs.Tables.{said_by}
 use Rattle.rules.proofs.misplaced.frame_misplaced.Goals as goal

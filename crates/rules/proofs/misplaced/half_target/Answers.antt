@@ -1,5 +1,4 @@
 -- `half_target` meets its contract: the same tests, decided by whether there is a target.
-use borrow.Author.Rules.{rules}
 use mathlib.Core.Path.{sym, ◌∙◌}
 use Rattle.rules.specs.Rules.{half_target}
 use Rattle.rules.proofs.misplaced.half_target.Goals as goal

@@ -1,8 +1,6 @@
 -- `is_misplaced` meets its contract: each arm is one case of `misplaced`.
-use borrow.Author.Rules.{rules}
 use Rattle.rules.specs.Rules.{misplaced}
 use Rattle.rules.specs.Tables.{said_by}
-use Rattle.rows.specs.Lookups.{given}
 use Rattle.rules.proofs.misplaced.is_misplaced.Goals as goal
 
 pub returns-in-Header : goal.returns-in-Header

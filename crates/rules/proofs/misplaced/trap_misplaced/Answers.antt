@@ -1,5 +1,4 @@
 -- `trap_misplaced` meets its contract: the tests of `trap_misplaced`, by lookups.
-use borrow.Author.Rules.{rules}
 use Rattle.rules.specs.Rules.{trap_misplaced}
 use Rattle.rules.specs.Tables.{said_by}
 use Rattle.rules.proofs.misplaced.trap_misplaced.Goals as goal

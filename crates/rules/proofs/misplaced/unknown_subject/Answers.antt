@@ -1,5 +1,4 @@
 -- `unknown_subject` meets its contract: the tests of `unknown_subject`, each by a lookup.
-use borrow.Author.Rules.{rules}
 use Rattle.rules.specs.Rules.{unknown_subject}
 use Rattle.rules.specs.Tables.{said_by}
 use Rattle.rules.proofs.misplaced.unknown_subject.Goals as goal

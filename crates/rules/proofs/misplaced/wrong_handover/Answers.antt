@@ -1,5 +1,4 @@
 -- `wrong_handover` meets its contract: the tests of `wrong_handover`, the groups by lookups.
-use borrow.Author.Rules.{rules}
 use Rattle.rules.specs.Rules.{wrong_handover}
 use Rattle.rules.specs.Tables.{said_by}
 use Rattle.rules.proofs.misplaced.wrong_handover.Goals as goal

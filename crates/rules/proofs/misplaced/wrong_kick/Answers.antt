@@ -1,5 +1,4 @@
 -- `wrong_kick` meets its contract: the tests of `wrong_kick`, the CPUs by lookups.
-use borrow.Author.Rules.{rules}
 use Rattle.rules.specs.Rules.{wrong_kick}
 use Rattle.rules.proofs.misplaced.wrong_kick.Goals as goal
 

@@ -1,5 +1,4 @@
 -- `wrong_target` meets its contract: the tests of `wrong_target`.
-use borrow.Author.Rules.{rules}
 use Rattle.rules.specs.Rules.{wrong_target}
 use Rattle.rules.proofs.misplaced.wrong_target.Goals as goal
 

@@ -1,5 +1,4 @@
 -- `lengths_of` meets its contract: eight lookups.
-use borrow.Author.Rules.{rules}
 use Rattle.rules.specs.Plan.{lengths_at}
 use Rattle.rules.proofs.plan.lengths_of.Goals as goal
 

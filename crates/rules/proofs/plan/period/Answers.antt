@@ -1,5 +1,4 @@
 -- `period` meets its contract: the lengths by lookup, and their sum.
-use borrow.Author.Rules.{rules}
 use Rattle.rules.specs.Plan.{period_by}
 use Rattle.rules.proofs.plan.period.Goals as goal
 

@@ -1,8 +1,6 @@
 -- `plan_length` meets its contract: before place i the sum is that of the first i lengths, which is below 65536 for each.
 use native.Mathlib.Omega.{arith}
-use mathlib.Core.Path.{refl, ◌≡◌}
-use Prim.Native.Nat.{◌≤◌, ◌-◌, ◌*◌}
-use lib.ListN.{take}
+use mathlib.Core.Path.{refl}
 use Rattle.rules.specs.Plan.{total}
 use Rattle.rules.proofs.PlanLaws.{total_more, total_end}
 use Rattle.rules.proofs.plan.plan_length.Goals as goal

@@ -1,10 +1,8 @@
 -- `plan_length` meets its contract: before place i the sum is that of the first i lengths, which is below 65536 for each.
-use native.Mathlib.Omega.{arith}
-use mathlib.Core.Path.{refl, ◌≡◌}
+use mathlib.Core.Path.{◌≡◌}
 use Prim.Native.Nat.{◌≤◌, ◌-◌, ◌*◌}
 use lib.ListN.{take}
 use Rattle.rules.specs.Plan.{total}
-use Rattle.rules.proofs.PlanLaws.{total_more, total_end}
 use Rattle.rules.proofs.plan.plan_length.Given as goal
 
 abbrev pub invariant-loop-i : goal.invariant-loop-i

@@ -1,5 +1,4 @@
 -- `in_range` meets its contract: each arm is one case of `inRange`.
-use borrow.Author.Rules.{rules}
 use Rattle.rules.specs.Rules.{in_range}
 use Rattle.rules.proofs.ranges.in_range.Goals as goal
 

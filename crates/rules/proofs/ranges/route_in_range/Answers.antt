@@ -1,5 +1,4 @@
 -- `route_in_range` meets its contract: the code's tests are those of `route_in_range`, the first by `is_routable`.
-use borrow.Author.Rules.{rules}
 use Rattle.rules.specs.Rules.{route_in_range}
 use Rattle.rules.proofs.ranges.route_in_range.Goals as goal
 

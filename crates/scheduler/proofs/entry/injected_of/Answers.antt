@@ -1,5 +1,4 @@
 -- `injected_of` meets its contract: each way is one of its cases.
-use borrow.Author.Rules.{rules}
 use Rattle.scheduler.specs.Entry.{injected_of}
 use Rattle.scheduler.proofs.entry.injected_of.Goals as goal
 

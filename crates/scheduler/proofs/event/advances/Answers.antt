@@ -1,5 +1,4 @@
 -- `advances` meets its contract: each action is one of its cases.
-use borrow.Author.Rules.{rules}
 use Rattle.scheduler.specs.Calls.{advances}
 use Rattle.scheduler.proofs.event.advances.Goals as goal
 

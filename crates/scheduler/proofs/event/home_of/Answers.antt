@@ -1,5 +1,4 @@
 -- `home_of` meets its contract: the group of the subject, its partition, and its CPU.
-use borrow.Author.Rules.{rules}
 use Rattle.scheduler.proofs.event.home_of.Goals as goal
 
 pub returns : goal.returns

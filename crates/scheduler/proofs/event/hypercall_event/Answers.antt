@@ -1,5 +1,4 @@
 -- `hypercall_event` meets its contract: its one test is that of the event.
-use borrow.Author.Rules.{rules}
 use Rattle.scheduler.specs.Calls.{hypercall_event}
 use borrow.Author.Tests.{lt-ltb, le-ltb}
 use Rattle.meaning.specs.Answers.{no_event}

@@ -1,5 +1,4 @@
 -- `kicked_by` meets its contract: there is no target, or its one test is whether the event kicks.
-use borrow.Author.Rules.{rules}
 use Rattle.scheduler.specs.Calls.{kicked_by}
 use Rattle.scheduler.proofs.event.kicked_by.Goals as goal
 

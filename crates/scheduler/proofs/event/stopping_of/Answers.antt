@@ -1,5 +1,4 @@
 -- `stopping_of` meets its contract: each action is one of its cases.
-use borrow.Author.Rules.{rules}
 use Rattle.scheduler.specs.Calls.{stopping_of}
 use Rattle.scheduler.proofs.event.stopping_of.Goals as goal
 

@@ -1,5 +1,4 @@
 -- `trap_source` meets its contract: the event of the trap, then what it does.
-use borrow.Author.Rules.{rules}
 use Rattle.scheduler.specs.Calls.{trap_source}
 use Rattle.scheduler.proofs.event.trap_source.Goals as goal
 

@@ -1,5 +1,4 @@
 -- `not_started` meets its contract: the verdict is kept, and beside it stand zeros.
-use borrow.Author.Rules.{rules}
 use Rattle.scheduler.specs.Start.{not_started}
 use Rattle.scheduler.proofs.starting.not_started.Goals as goal
 

@@ -1,5 +1,4 @@
 -- `start` meets its contract: each verdict is one of its cases.
-use borrow.Author.Rules.{rules}
 use Rattle.scheduler.specs.Start.{start_of, started_by}
 use mathlib.Core.Path.{◌∙◌}
 use Rattle.scheduler.proofs.starting.start.Goals as goal

@@ -1,9 +1,7 @@
 -- `start_with` meets its contract: its one test is whether the policy is known, by its table.
-use borrow.Author.Rules.{rules}
 use Rattle.scheduler.specs.Start.{started_with}
 use mathlib.Core.Path.{◌∙◌}
 use Rattle.policy.proofs.WriteLaws.{known_by_rows}
-use borrow.Author.Tests.{not-true, not-false}
 use Rattle.scheduler.proofs.starting.start_with.Goals as goal
 
 pub returns-then-not-known_rows : goal.returns-then-not-known_rows

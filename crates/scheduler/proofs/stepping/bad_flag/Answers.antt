@@ -1,5 +1,4 @@
 -- `bad_flag` meets its contract: each call is one of its cases.
-use borrow.Author.Rules.{rules}
 use Rattle.scheduler.specs.Steps.{bad_flag}
 use Rattle.scheduler.proofs.stepping.bad_flag.Goals as goal
 

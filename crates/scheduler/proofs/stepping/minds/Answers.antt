@@ -1,5 +1,4 @@
 -- `minds` meets its contract: each call is one of its cases.
-use borrow.Author.Rules.{rules}
 use Rattle.scheduler.specs.Steps.{minds}
 use Rattle.scheduler.proofs.stepping.minds.Goals as goal
 

@@ -1,5 +1,4 @@
 -- `no_such` meets its contract: each call is one of its cases.
-use borrow.Author.Rules.{rules}
 use Rattle.scheduler.specs.Steps.{no_such}
 use Rattle.scheduler.proofs.stepping.no_such.Goals as goal
 

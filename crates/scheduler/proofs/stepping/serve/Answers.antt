@@ -1,5 +1,4 @@
 -- `serve` meets its contract: a line that is no call is refused, and a call is answered.
-use borrow.Author.Rules.{rules}
 use Rattle.scheduler.specs.Steps.{served}
 use mathlib.Core.Path.{refl}
 use Rattle.scheduler.proofs.stepping.serve.Goals as goal

@@ -1,9 +1,7 @@
 -- `step` meets its contract: 80 where the policy is not known or the state not in range, or else the call.
-use borrow.Author.Rules.{rules}
 use Rattle.scheduler.specs.Steps.{step_of}
 use mathlib.Core.Path.{◌∙◌, sym}
 use Rattle.policy.proofs.WriteLaws.{known_by_rows}
-use borrow.Author.Tests.{not-true, not-false}
 use Rattle.scheduler.proofs.stepping.step.Goals as goal
 
 pub returns-then-not-known_rows : goal.returns-then-not-known_rows

@@ -1,9 +1,8 @@
 -- `Bits256::highest` meets its contract. The loop's invariant: the highest number is the highest below `left`. The measure is `left`.
 -- Assumes nothing.
 use mathlib.Core.Path.{◌≡◌, refl, sym, ◌∙◌}
-use Prim.Native.Nat.{◌-◌, ◌≤◌}
+use Prim.Native.Nat.{◌-◌}
 use native.Mathlib.Omega.{arith}
-use Rattle.bits.specs.Members.{highest_below}
 use Rattle.bits.specs.Sets.{words256, has256, highest256}
 use Rattle.bits.proofs.Laws.{walk_step, walk_ended}
 use Rattle.bits.proofs.Sets.{four_words}

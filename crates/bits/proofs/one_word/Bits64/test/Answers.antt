@@ -2,7 +2,6 @@
 -- Assumes nothing.
 use mathlib.Core.Path.{◌≡◌, sym}
 use native.Mathlib.Omega.{arith}
-use borrow.Author.Rules.{rules}
 use Rattle.bits.specs.Word.{word_index}
 use Rattle.bits.specs.Members.{has}
 use Rattle.bits.specs.Sets.{words64, has64}

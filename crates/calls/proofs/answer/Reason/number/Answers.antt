@@ -1,5 +1,4 @@
 -- `number` meets its contract: each arm is one case of `number_of`.
-use borrow.Author.Rules.{rules}
 use Rattle.calls.specs.Answers.{number_of}
 use Rattle.calls.proofs.answer.Reason.number.Goals as goal
 

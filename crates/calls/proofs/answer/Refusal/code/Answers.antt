@@ -1,5 +1,4 @@
 -- `code` meets its contract: each arm is one case of `code_of`.
-use borrow.Author.Rules.{rules}
 use Rattle.calls.specs.Answers.{code_of}
 use Rattle.calls.proofs.answer.Refusal.code.Goals as goal
 

@@ -1,5 +1,4 @@
 -- `count_in_range` meets its contract: both counts are the definition's.
-use borrow.Author.Rules.{rules}
 use Rattle.clock.specs.Time.{count_in_range}
 use Rattle.clock.proofs.time.Clock.count_in_range.Goals as goal
 

@@ -1,5 +1,4 @@
 -- `cpu_in_range` meets its contract: the first test decides, or else the second.
-use borrow.Author.Rules.{rules}
 use Rattle.clock.specs.Time.{cpu_in_range, ticks_left}
 use borrow.Author.Tests.{lt-ltb, le-ltb}
 use Rattle.clock.proofs.time.Clock.cpu_in_range.Goals as goal

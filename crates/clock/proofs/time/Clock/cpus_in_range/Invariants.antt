@@ -1,11 +1,7 @@
 -- `cpus_in_range` meets its contract: before each turn, the CPUs so far are in range.
-use borrow.Author.Rules.{rules}
-use mathlib.Core.Path.{◌≡◌, sym, ◌∙◌}
+use mathlib.Core.Path.{◌≡◌}
 use Prim.Native.Nat.{◌-◌, ◌≤◌}
-use native.Mathlib.Omega.{arith}
-use borrow.Author.Tests.{not-true, not-false}
 use Rattle.clock.specs.Time.{cpu_in_range}
-use Rattle.rules.proofs.Below.{below_none, below_more, below_stop, below_end}
 use Rattle.rules.specs.Rules.{all_below}
 use mathlib.Core.Bool.{true}
 use Rattle.clock.proofs.time.Clock.cpus_in_range.Given as goal

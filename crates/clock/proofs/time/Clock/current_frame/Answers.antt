@@ -1,5 +1,4 @@
 -- `current_frame` meets its contract: the minor frame that the CPU's clock names.
-use borrow.Author.Rules.{rules}
 use mathlib.Core.Path.{refl}
 use Rattle.clock.specs.Time.{current_frame}
 use Rattle.clock.proofs.time.Clock.current_frame.Goals as goal

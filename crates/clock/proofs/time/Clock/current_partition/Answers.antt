@@ -1,5 +1,4 @@
 -- `current_partition` meets its contract: a field of the current minor frame.
-use borrow.Author.Rules.{rules}
 use mathlib.Core.Path.{refl, ap}
 use Rattle.clock.specs.Time.{current_partition}
 use Rattle.clock.proofs.time.Clock.current_partition.Goals as goal

@@ -1,11 +1,7 @@
 -- `finished_below` meets its contract: before each turn, the CPUs so far have finished.
-use borrow.Author.Rules.{rules}
-use mathlib.Core.Path.{◌≡◌, sym, ◌∙◌}
+use mathlib.Core.Path.{◌≡◌}
 use Prim.Native.Nat.{◌-◌, ◌≤◌}
-use native.Mathlib.Omega.{arith}
-use borrow.Author.Tests.{not-true, not-false}
 use Rattle.clock.specs.Time.{finished}
-use Rattle.rules.proofs.Below.{below_none, below_more, below_stop, below_end}
 use Rattle.rules.specs.Rules.{all_below}
 use mathlib.Core.Bool.{true}
 use Rattle.clock.proofs.time.Clock.finished_below.Given as goal

@@ -1,5 +1,4 @@
 -- `fresh` meets its contract: every CPU at its first minor frame of major 0.
-use borrow.Author.Rules.{rules}
 use Rattle.clock.specs.Time.{fresh_clock}
 use mathlib.Core.Path.{refl}
 use Rattle.clock.proofs.time.Clock.fresh.Goals as goal

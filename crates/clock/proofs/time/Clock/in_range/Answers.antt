@@ -1,7 +1,6 @@
 -- `in_range` meets its contract: the first test that fails decides, or else the last.
-use borrow.Author.Rules.{rules}
 use mathlib.Core.Path.{refl, sym, ◌∙◌}
-use borrow.Author.Tests.{lt-ltb, le-ltb, not-true, not-false}
+use borrow.Author.Tests.{lt-ltb, le-ltb}
 use Rattle.clock.specs.Time.{clock_in_range}
 use Rattle.clock.proofs.time.Clock.in_range.Goals as goal
 

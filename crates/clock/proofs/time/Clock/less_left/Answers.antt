@@ -1,5 +1,4 @@
 -- `less_left` meets its contract: the CPU's clock is read, changed and stored.
-use borrow.Author.Rules.{rules}
 use Rattle.clock.specs.Time.{less_left}
 use Rattle.clock.proofs.time.Clock.less_left.Goals as goal
 

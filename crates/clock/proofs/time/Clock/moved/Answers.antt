@@ -1,5 +1,4 @@
 -- `moved` meets its contract: the definition's one test is answered by the first of the code's two, or else by the second.
-use borrow.Author.Rules.{rules}
 use Rattle.clock.specs.Time.{moved}
 use mathlib.Core.Path.{◌∙◌}
 use Prim.Native.Nat.{◌+◌}

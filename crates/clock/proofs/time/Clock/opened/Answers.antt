@@ -1,5 +1,4 @@
 -- `opened` meets its contract: every CPU at its first minor frame of the next major.
-use borrow.Author.Rules.{rules}
 use Rattle.clock.specs.Time.{opened}
 use Rattle.clock.proofs.time.Clock.opened.Goals as goal
 

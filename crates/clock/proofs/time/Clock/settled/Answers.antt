@@ -1,5 +1,4 @@
 -- `settled` meets its contract: its one test is `all_finished`.
-use borrow.Author.Rules.{rules}
 use mathlib.Core.Path.{sym, ◌∙◌}
 use Rattle.clock.specs.Time.{all_finished, settled}
 use Rattle.clock.proofs.time.Clock.settled.Goals as goal

@@ -1,5 +1,4 @@
 -- `tick` meets its contract: each way through is one of its cases.
-use borrow.Author.Rules.{rules}
 use mathlib.Core.Path.{refl, sym, ◌∙◌}
 use borrow.Author.Tests.{lt-ltb, le-ltb}
 use Rattle.clock.specs.Time.{tick_of}

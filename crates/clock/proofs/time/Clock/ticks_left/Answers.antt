@@ -1,5 +1,4 @@
 -- `ticks_left` meets its contract: a field of the CPU's clock.
-use borrow.Author.Rules.{rules}
 use Rattle.clock.specs.Time.{ticks_left}
 use Rattle.clock.proofs.time.Clock.ticks_left.Goals as goal
 

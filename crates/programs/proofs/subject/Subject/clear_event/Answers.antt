@@ -1,5 +1,4 @@
 -- `clear_event` meets its contract: the event is out of the set.
-use borrow.Author.Rules.{rules}
 use Rattle.programs.specs.Records.{event_cleared}
 use Rattle.programs.proofs.subject.Subject.clear_event.Goals as goal
 

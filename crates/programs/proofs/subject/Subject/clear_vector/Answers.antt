@@ -1,5 +1,4 @@
 -- `clear_vector` meets its contract: the vector is out of the set.
-use borrow.Author.Rules.{rules}
 use Rattle.programs.specs.Records.{vector_cleared}
 use Rattle.programs.proofs.subject.Subject.clear_vector.Goals as goal
 

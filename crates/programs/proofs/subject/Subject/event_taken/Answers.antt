@@ -1,5 +1,4 @@
 -- `event_taken` meets its contract: nothing is pending, or the highest is cleared and its action done.
-use borrow.Author.Rules.{rules}
 use mathlib.Core.Path.{◌∙◌}
 use Rattle.programs.specs.Entering.{event_taken_at, event_taken}
 use Rattle.programs.proofs.subject.Subject.event_taken.Goals as goal

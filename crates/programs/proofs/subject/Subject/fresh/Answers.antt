@@ -1,5 +1,4 @@
 -- `fresh` meets its contract: both sets are empty.
-use borrow.Author.Rules.{rules}
 use Rattle.programs.specs.Records.{fresh_subject}
 use Rattle.programs.proofs.subject.Subject.fresh.Goals as goal
 

@@ -1,5 +1,4 @@
 -- `has_pending` meets its contract: one of the two sets is not empty.
-use borrow.Author.Rules.{rules}
 use Rattle.programs.specs.Records.{has_pending}
 use Rattle.programs.proofs.subject.Subject.has_pending.Goals as goal
 

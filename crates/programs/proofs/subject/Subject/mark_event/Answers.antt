@@ -1,5 +1,4 @@
 -- `mark_event` meets its contract: the event is in the set.
-use borrow.Author.Rules.{rules}
 use Rattle.programs.specs.Records.{event_marked}
 use Rattle.programs.proofs.subject.Subject.mark_event.Goals as goal
 

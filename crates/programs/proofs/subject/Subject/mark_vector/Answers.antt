@@ -1,5 +1,4 @@
 -- `mark_vector` meets its contract: the vector is in the set.
-use borrow.Author.Rules.{rules}
 use Rattle.programs.specs.Records.{vector_marked}
 use Rattle.programs.proofs.subject.Subject.mark_vector.Goals as goal
 

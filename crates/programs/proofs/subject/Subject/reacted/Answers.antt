@@ -1,5 +1,4 @@
 -- `reacted` meets its contract: each action is one of its cases.
-use borrow.Author.Rules.{rules}
 use Rattle.programs.specs.Entering.{reacted}
 use Rattle.programs.proofs.subject.Subject.reacted.Goals as goal
 

@@ -1,5 +1,4 @@
 -- `reset` meets its contract: no vectors, closed.
-use borrow.Author.Rules.{rules}
 use Rattle.programs.specs.Records.{resetted}
 use Rattle.programs.proofs.subject.Subject.reset.Goals as goal
 

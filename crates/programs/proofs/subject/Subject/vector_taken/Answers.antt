@@ -1,5 +1,4 @@
 -- `vector_taken` meets its contract: closed, or nothing is pending, or the highest is cleared.
-use borrow.Author.Rules.{rules}
 use borrow.Author.Tests.{not-true, not-false}
 use Rattle.programs.specs.Entering.{vector_taken_at}
 use Rattle.programs.proofs.CodeLaws.{taken_closed, taken_open}

@@ -1,5 +1,4 @@
 -- `acted` meets its contract: each action is one of its cases.
-use borrow.Author.Rules.{rules}
 use Rattle.programs.specs.Source.{acted}
 use Rattle.programs.proofs.whole.Programs.acted.Goals as goal
 

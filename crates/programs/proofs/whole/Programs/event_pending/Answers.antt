@@ -1,5 +1,4 @@
 -- `event_pending` meets its contract: the subject is read, changed and stored.
-use borrow.Author.Rules.{rules}
 use Rattle.programs.specs.Signals.{event_pending}
 use Rattle.programs.proofs.whole.Programs.event_pending.Goals as goal
 

@@ -1,5 +1,4 @@
 -- `group_in_range` meets its contract: both tests are the definition's.
-use borrow.Author.Rules.{rules}
 use Rattle.programs.specs.Range.{group_in_range}
 use Rattle.programs.proofs.whole.Programs.group_in_range.Goals as goal
 

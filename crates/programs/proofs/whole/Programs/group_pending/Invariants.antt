@@ -1,12 +1,9 @@
 -- `group_pending` meets its contract: before each turn, none of the subjects so far is of the group and has something pending.
-use mathlib.Core.Path.{◌≡◌, sym, ◌∙◌}
-use native.Mathlib.Omega.{arith}
-use borrow.Author.Rules.{rules}
+use mathlib.Core.Path.{◌≡◌}
 use Prim.Native.Nat.{◌≤◌, ◌-◌}
 use mathlib.Core.Bool.{false}
-use Rattle.rules.proofs.Below.{any_none, any_more, any_stop, any_end}
 use Rattle.rules.specs.Rules.{any_below}
-use Rattle.programs.specs.Round.{pending_in, group_pending}
+use Rattle.programs.specs.Round.{pending_in}
 use Rattle.programs.proofs.whole.Programs.group_pending.Given as goal
 
 abbrev pub invariant-loop-subject : goal.invariant-loop-subject

@@ -1,13 +1,7 @@
 -- `groups_in_range_below` meets its contract: before each turn, the partitions' active groups so far are in range.
-use mathlib.Core.Path.{◌≡◌, sym, ◌∙◌}
+use mathlib.Core.Path.{sym, ◌∙◌}
 use native.Mathlib.Omega.{arith}
-use borrow.Author.Rules.{rules}
-use Prim.Native.Nat.{◌≤◌, ◌-◌}
-use mathlib.Core.Bool.{true}
-use borrow.Author.Tests.{not-true, not-false}
 use Rattle.rules.proofs.Below.{below_none, below_more, below_stop, below_end}
-use Rattle.rules.specs.Rules.{all_below}
-use Rattle.programs.specs.Range.{group_in_range}
 use Rattle.programs.proofs.whole.Programs.groups_in_range_below.Goals as goal
 
 pub loop-partition-init : goal.loop-partition-init

@@ -1,5 +1,4 @@
 -- `handed_over` meets its contract: the group is read, changed and stored.
-use borrow.Author.Rules.{rules}
 use Rattle.programs.specs.Source.{handed_over}
 use Rattle.programs.proofs.whole.Programs.handed_over.Goals as goal
 

@@ -1,7 +1,5 @@
 -- `in_range` meets its contract: the first test that fails decides, or else the last.
-use borrow.Author.Rules.{rules}
 use mathlib.Core.Path.{sym, refl, ◌∙◌}
-use borrow.Author.Tests.{not-true, not-false}
 use Rattle.programs.specs.Range.{masks_in_range, programs_in_range}
 use Rattle.programs.proofs.whole.Programs.in_range.Goals as goal
 

@@ -1,5 +1,4 @@
 -- `masked` meets its contract: each way is one of its cases.
-use borrow.Author.Rules.{rules}
 use Rattle.programs.specs.Signals.{masked}
 use Rattle.programs.proofs.whole.Programs.masked.Goals as goal
 

@@ -1,5 +1,4 @@
 -- `may_run` meets its contract: both tests are the definition's.
-use borrow.Author.Rules.{rules}
 use Rattle.programs.specs.Round.{may_run}
 use Rattle.programs.proofs.whole.Programs.may_run.Goals as goal
 

@@ -1,5 +1,4 @@
 -- `moved_to` meets its contract: each way is one of its cases.
-use borrow.Author.Rules.{rules}
 use Rattle.programs.specs.Source.{moved_to}
 use Rattle.programs.proofs.whole.Programs.moved_to.Goals as goal
 

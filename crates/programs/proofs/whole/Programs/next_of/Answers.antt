@@ -1,5 +1,4 @@
 -- `next_of` meets its contract: the search from the active group on.
-use borrow.Author.Rules.{rules}
 use Rattle.programs.specs.Round.{next_of}
 use Rattle.programs.proofs.whole.Programs.next_of.Goals as goal
 

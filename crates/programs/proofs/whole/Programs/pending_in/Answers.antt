@@ -1,5 +1,4 @@
 -- `pending_in` meets its contract: both tests are the definition's.
-use borrow.Author.Rules.{rules}
 use Rattle.programs.specs.Round.{pending_in}
 use Rattle.programs.proofs.whole.Programs.pending_in.Goals as goal
 

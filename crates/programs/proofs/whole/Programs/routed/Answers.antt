@@ -1,5 +1,4 @@
 -- `routed` meets its contract: each way is one of its cases.
-use borrow.Author.Rules.{rules}
 use Rattle.programs.specs.Signals.{routed}
 use Rattle.programs.proofs.whole.Programs.routed.Goals as goal
 

@@ -1,5 +1,4 @@
 -- `slept` meets its contract: its one test is whether something is pending.
-use borrow.Author.Rules.{rules}
 use mathlib.Core.Path.{sym, ◌∙◌}
 use Rattle.programs.specs.Source.{slept}
 use Rattle.programs.proofs.whole.Programs.slept.Goals as goal

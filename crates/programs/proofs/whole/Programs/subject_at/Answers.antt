@@ -1,5 +1,4 @@
 -- `subject_at` meets its contract: past the last subject the read finds a fresh one.
-use borrow.Author.Rules.{rules}
 use mathlib.Core.Path.{◌≡◌, ◌∙◌}
 use native.Mathlib.Omega.{arith}
 use lib.ListN.{length}

@@ -1,5 +1,4 @@
 -- `subject_in_range` meets its contract: both tests are the definition's.
-use borrow.Author.Rules.{rules}
 use mathlib.Core.Path.{ap}
 use Rattle.programs.specs.Parts.{active_subject}
 use Rattle.programs.specs.Range.{subject_in_range}

@@ -1,11 +1,7 @@
 -- `subjects_in_range_below` meets its contract: before each turn, the groups' active subjects so far are in range.
-use mathlib.Core.Path.{◌≡◌, sym, ◌∙◌}
-use native.Mathlib.Omega.{arith}
-use borrow.Author.Rules.{rules}
+use mathlib.Core.Path.{◌≡◌}
 use Prim.Native.Nat.{◌≤◌, ◌-◌}
 use mathlib.Core.Bool.{true}
-use borrow.Author.Tests.{not-true, not-false}
-use Rattle.rules.proofs.Below.{below_none, below_more, below_stop, below_end}
 use Rattle.rules.specs.Rules.{all_below}
 use Rattle.programs.specs.Range.{subject_in_range}
 use Rattle.programs.proofs.whole.Programs.subjects_in_range_below.Given as goal

@@ -1,5 +1,4 @@
 -- `unmasked` meets its contract: the line is out of the set.
-use borrow.Author.Rules.{rules}
 use Rattle.programs.specs.Source.{unmasked}
 use Rattle.programs.proofs.whole.Programs.unmasked.Goals as goal
 

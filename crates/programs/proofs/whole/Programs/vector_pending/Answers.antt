@@ -1,5 +1,4 @@
 -- `vector_pending` meets its contract: the subject is read, changed and stored.
-use borrow.Author.Rules.{rules}
 use Rattle.programs.specs.Signals.{vector_pending}
 use Rattle.programs.proofs.whole.Programs.vector_pending.Goals as goal
 

@@ -1,5 +1,4 @@
 -- `woke` meets its contract: the group of the subject is read, changed and stored.
-use borrow.Author.Rules.{rules}
 use Rattle.programs.specs.Signals.{woke}
 use Rattle.programs.proofs.whole.Programs.woke.Goals as goal
 

@@ -1,5 +1,4 @@
 -- `yielded` meets its contract: what was found becomes active.
-use borrow.Author.Rules.{rules}
 use Rattle.programs.specs.Source.{yielded}
 use Rattle.programs.proofs.whole.Programs.yielded.Goals as goal
 

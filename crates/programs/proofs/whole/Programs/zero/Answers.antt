@@ -1,5 +1,4 @@
 -- `zero` meets its contract: every part is as the definition has it.
-use borrow.Author.Rules.{rules}
 use Rattle.programs.specs.Fresh.{zero_programs}
 use Rattle.programs.proofs.whole.Programs.zero.Goals as goal
 

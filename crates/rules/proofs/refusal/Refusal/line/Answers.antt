@@ -1,5 +1,4 @@
 -- `line` meets its contract: each arm is one case of `line_of`.
-use borrow.Author.Rules.{rules}
 use Rattle.rules.specs.Refusals.{line_of}
 use Rattle.rules.proofs.refusal.Refusal.line.Goals as goal
 

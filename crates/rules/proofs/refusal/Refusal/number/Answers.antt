@@ -1,5 +1,4 @@
 -- `number` meets its contract: each arm is one case of `number_of`.
-use borrow.Author.Rules.{rules}
 use Rattle.rules.specs.Refusals.{number_of}
 use Rattle.rules.proofs.refusal.Refusal.number.Goals as goal
 

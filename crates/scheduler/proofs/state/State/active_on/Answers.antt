@@ -1,5 +1,4 @@
 -- `active_on` meets its contract: the partition, its group, and the subject that is active there.
-use borrow.Author.Rules.{rules}
 use Rattle.scheduler.specs.Range.{active_on}
 use Rattle.programs.specs.Parts.{active_subject}
 use mathlib.Core.Path.{ap}

@@ -1,5 +1,4 @@
 -- `admitted` meets its contract: nobody is found, or a group becomes active and its subject is entered.
-use borrow.Author.Rules.{rules}
 use Rattle.scheduler.specs.Entry.{admitted}
 use Rattle.programs.specs.Parts.{active_subject}
 use mathlib.Core.Path.{ap}

@@ -1,5 +1,4 @@
 -- `after_stop` meets its contract: stopped, and the call minds.
-use borrow.Author.Rules.{rules}
 use Rattle.scheduler.specs.Steps.{after_stop}
 use Rattle.scheduler.proofs.state.State.after_stop.Goals as goal
 

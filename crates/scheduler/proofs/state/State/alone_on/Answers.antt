@@ -1,5 +1,4 @@
 -- `alone_on` meets its contract: nobody anywhere, then the one on this CPU again.
-use borrow.Author.Rules.{rules}
 use Rattle.scheduler.specs.States.{alone_on, with_entered}
 use Rattle.scheduler.proofs.state.State.alone_on.Goals as goal
 

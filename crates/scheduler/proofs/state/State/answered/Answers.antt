@@ -1,5 +1,4 @@
 -- `answered` meets its contract: the first refusal that applies, or else the call.
-use borrow.Author.Rules.{rules}
 use Rattle.scheduler.specs.Steps.{answered}
 use mathlib.Core.Path.{sym, ◌∙◌}
 use Rattle.scheduler.proofs.state.State.answered.Goals as goal

@@ -1,5 +1,4 @@
 -- `called` meets its contract: each call is one of its cases.
-use borrow.Author.Rules.{rules}
 use Rattle.scheduler.specs.Calls.{called}
 use Rattle.scheduler.proofs.state.State.called.Goals as goal
 

@@ -1,5 +1,4 @@
 -- `choose_call` meets its contract: the next major is chosen in the clock.
-use borrow.Author.Rules.{rules}
 use Rattle.scheduler.specs.Calls.{choose_call}
 use Rattle.scheduler.proofs.state.State.choose_call.Goals as goal
 

@@ -1,13 +1,7 @@
 -- `entered_below` meets its contract: before each turn, the CPUs so far have in range who is entered.
-use borrow.Author.Rules.{rules}
-use mathlib.Core.Path.{◌≡◌, sym, ◌∙◌}
-use Prim.Native.Nat.{◌-◌, ◌≤◌}
+use mathlib.Core.Path.{sym, ◌∙◌}
 use native.Mathlib.Omega.{arith}
-use borrow.Author.Tests.{not-true, not-false}
-use Rattle.scheduler.specs.Range.{entered_in_range}
 use Rattle.rules.proofs.Below.{below_none, below_more, below_stop, below_end}
-use Rattle.rules.specs.Rules.{all_below}
-use mathlib.Core.Bool.{true}
 use Rattle.scheduler.proofs.state.State.entered_below.Goals as goal
 
 pub loop-cpu-init : goal.loop-cpu-init

@@ -1,5 +1,4 @@
 -- `entered_in_range` meets its contract: the first test that decides, or else the last.
-use borrow.Author.Rules.{rules}
 use Rattle.scheduler.specs.Range.{entered_in_range}
 use borrow.Author.Tests.{eq-eqb, ne_eqb}
 use mathlib.Core.Path.{sym, ◌∙◌}

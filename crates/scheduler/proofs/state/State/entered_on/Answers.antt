@@ -1,5 +1,4 @@
 -- `entered_on` meets its contract: past the last CPU the read finds nobody.
-use borrow.Author.Rules.{rules}
 use Rattle.scheduler.specs.States.{entered_on}
 use mathlib.Core.Path.{◌≡◌}
 use Rattle.programs.proofs.Laws.{read_out, read_any}

@@ -1,5 +1,4 @@
 -- `enters` meets its contract: what the subject takes is taken, and it is the one entered.
-use borrow.Author.Rules.{rules}
 use Rattle.scheduler.specs.Entry.{enters}
 use mathlib.Core.Path.{sym}
 use Rattle.scheduler.proofs.state.State.enters.Goals as goal

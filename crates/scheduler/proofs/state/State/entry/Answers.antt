@@ -1,5 +1,4 @@
 -- `entry` meets its contract: its one test is whether the CPU waits.
-use borrow.Author.Rules.{rules}
 use Rattle.scheduler.specs.Entry.{entry_of}
 use mathlib.Core.Path.{sym, ◌∙◌}
 use Rattle.scheduler.proofs.state.State.entry.Goals as goal

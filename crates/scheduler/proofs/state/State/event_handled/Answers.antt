@@ -1,5 +1,4 @@
 -- `event_handled` meets its contract: it stops, or action and target event are done and entry follows.
-use borrow.Author.Rules.{rules}
 use Rattle.scheduler.specs.Calls.{event_handled, event_then}
 use Rattle.scheduler.proofs.state.State.event_handled.Goals as goal
 

@@ -1,5 +1,4 @@
 -- `flag_stored` meets its contract: its one test is whether somebody is entered.
-use borrow.Author.Rules.{rules}
 use Rattle.scheduler.specs.States.{flag_stored}
 use borrow.Author.Tests.{eq-eqb, ne_eqb}
 use Rattle.scheduler.proofs.state.State.flag_stored.Goals as goal

@@ -1,5 +1,4 @@
 -- `hypercall` meets its contract: the flag is stored, then the event is handled.
-use borrow.Author.Rules.{rules}
 use Rattle.scheduler.specs.Calls.{hypercall}
 use Rattle.scheduler.proofs.state.State.hypercall.Goals as goal
 

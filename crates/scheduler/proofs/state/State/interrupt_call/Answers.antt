@@ -1,5 +1,4 @@
 -- `interrupt_call` meets its contract: the flag is stored, the vector goes where it is routed, and entry follows.
-use borrow.Author.Rules.{rules}
 use Rattle.scheduler.specs.Calls.{interrupt_call}
 use Rattle.scheduler.proofs.state.State.interrupt_call.Goals as goal
 

@@ -1,5 +1,4 @@
 -- `nobody_there` meets its contract: each call is one of its cases.
-use borrow.Author.Rules.{rules}
 use Rattle.scheduler.specs.Steps.{nobody_there}
 use Rattle.scheduler.proofs.state.State.nobody_there.Goals as goal
 

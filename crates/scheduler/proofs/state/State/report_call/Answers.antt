@@ -1,5 +1,4 @@
 -- `report_call` meets its contract: the two counts of the partition.
-use borrow.Author.Rules.{rules}
 use Rattle.scheduler.specs.Calls.{report_call}
 use Rattle.scheduler.proofs.state.State.report_call.Goals as goal
 

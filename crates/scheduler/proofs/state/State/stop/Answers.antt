@@ -1,5 +1,4 @@
 -- `stop` meets its contract: the state is halted.
-use borrow.Author.Rules.{rules}
 use Rattle.scheduler.specs.Calls.{stop}
 use Rattle.scheduler.proofs.state.State.stop.Goals as goal
 

@@ -1,5 +1,4 @@
 -- `tick_call` meets its contract: each thing that plan time comes to is one of its cases.
-use borrow.Author.Rules.{rules}
 use Rattle.scheduler.specs.Calls.{tick_call, ticked_as}
 use Rattle.scheduler.proofs.state.State.tick_call.Goals as goal
 

@@ -1,5 +1,4 @@
 -- `trap_call` meets its contract: its one test is whether the trap is above the highest.
-use borrow.Author.Rules.{rules}
 use Rattle.scheduler.specs.Calls.{trap_call}
 use borrow.Author.Tests.{lt-ltb, le-ltb}
 use Rattle.scheduler.proofs.state.State.trap_call.Goals as goal

@@ -1,5 +1,4 @@
 -- `zero` meets its contract: every part is as the definition has it.
-use borrow.Author.Rules.{rules}
 use Rattle.scheduler.specs.States.{zero_state, zero_clock}
 use Rattle.scheduler.proofs.state.State.zero.Goals as goal
 
