@@ -1,5 +1,5 @@
 // The input, as far as there is room for it. A case must fit in.
-ghost use Rattle.std.specs.Prelude.{◌≤◌, ◌≡◌, length, IfOk, OnErr};
+ghost use Rattle.std.specs.Prelude.{◌≤◌, ◌≡◌, length, take, IfOk};
 
 use std::io::{self, Read};
 
@@ -9,11 +9,11 @@ pub(crate) fn room() -> [u8; 131072]
     [0; 131072]
 }
 
-// Reads on where the buffer has so many bytes; how many it then has.
+// Reads on where the buffer has so many bytes, which stay also where reading fails; how many it then has.
 pub(crate) fn refill(rt: &impl Input, buf: &mut [u8], have: usize) -> io::Result<usize>
     requires { have ≤ length buf.old }
     ensures ok { IfOk result (λ n. n ≤ length buf.new) }
-    ensures err { OnErr result (length buf.new ≡ length buf.old) }
+    ensures kept { take have buf.new ≡ take have buf.old }
 {
     let mut reader = rt.reader();
     let mut at = have;

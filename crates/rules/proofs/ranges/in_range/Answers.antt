@@ -1,4 +1,4 @@
--- `in_range` meets its contract: each arm is one case of `inRange`.
+-- `in_range` meets its contract: each arm is one case of `in_range`.
 use Rattle.rules.specs.Rules.{in_range}
 use Rattle.rules.proofs.ranges.in_range.Goals as goal
 
