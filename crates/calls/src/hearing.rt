@@ -105,7 +105,7 @@ fn heard_bytes(text: &[u8], count: usize) -> Heard
 
 // The line that the text begins with.
 pub fn call_line(text: &[u8]) -> CallLine
-    ensures { (result ≡ call_line text.now) × (text.now ≡ text.now) }
+    ensures { result ≡ call_line text.now }
 {
     let line = read_line(text);
     match line {
@@ -123,7 +123,7 @@ pub fn call_line(text: &[u8]) -> CallLine
 
 // A line heard by itself: without a newline it is ill formed.
 pub fn hear(line: &[u8]) -> Heard
-    ensures { (result ≡ heard_of line.now) × (line.now ≡ line.now) }
+    ensures { result ≡ heard_of line.now }
 {
     let ended = call_line(line);
     let CallLine::Ended { heard, end: _ } = ended else {

@@ -60,7 +60,7 @@ impl Clock {
     }
 
     pub fn in_range(self, rows: &[u64]) -> bool
-        ensures { (result ≡ clock_in_range rows.now self) × (rows.now ≡ rows.now) }
+        ensures { result ≡ clock_in_range rows.now self }
     {
         let counts = counts_of(rows);
         if counts.majors <= self.major {

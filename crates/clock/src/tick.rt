@@ -126,7 +126,7 @@ impl Clock {
 
     // One tick of a CPU.
     pub fn tick(self, rows: &[u64], cpu: u8) -> Ticked
-        ensures { (result ≡ tick_of rows.now self cpu) × (rows.now ≡ rows.now) }
+        ensures { result ≡ tick_of rows.now self cpu }
     {
         if self.waiting(cpu) {
             return Ticked {

@@ -59,7 +59,7 @@ impl Clock {
 
     // The current minor frame of a CPU.
     pub fn current_frame(self, rows: &[u64], cpu: u8) -> Frame
-        ensures { (result ≡ current_frame rows.now self cpu) × (rows.now ≡ rows.now) }
+        ensures { result ≡ current_frame rows.now self cpu }
     {
         let major = self.major;
         let c = self.cpu_at(cpu);
@@ -68,7 +68,7 @@ impl Clock {
 
     // The partition current on a CPU.
     pub fn current_partition(self, rows: &[u64], cpu: u8) -> u8
-        ensures { (result ≡ current_partition rows.now self cpu) × (rows.now ≡ rows.now) }
+        ensures { result ≡ current_partition rows.now self cpu }
     {
         let frame = self.current_frame(rows, cpu);
         frame.partition
@@ -114,7 +114,7 @@ impl Clock {
 
     // The clock at the start.
     pub fn fresh(rows: &[u64]) -> Clock
-        ensures { (result ≡ fresh_clock rows.now) × (rows.now ≡ rows.now) }
+        ensures { result ≡ fresh_clock rows.now }
     {
         let cpus = firsts(rows, 0);
         Clock {

@@ -47,7 +47,7 @@ fn ill_formed(text: &[u8], from: usize) -> Line
 
 // The line that the text begins with.
 pub fn read_line(text: &[u8]) -> Line
-    ensures { (result ≡ line_of text.now) × (text.now ≡ text.now) }
+    ensures { result ≡ line_of text.now }
 {
     let digits = run(text);
     if text.len() <= digits {
@@ -81,7 +81,7 @@ fn byte_of(high: u8, low: u8) -> u8
 
 // Byte k of the line that the text begins with; past the line's bytes it says nothing of the line.
 pub fn byte_at(text: &[u8], k: usize) -> u8
-    ensures { (result ≡ byte_at text.now k) × (text.now ≡ text.now) }
+    ensures { result ≡ byte_at text.now k }
 {
     if text.len() / 2 <= k {
         return 0;
@@ -94,7 +94,7 @@ pub fn byte_at(text: &[u8], k: usize) -> u8
 
 // The two-byte number whose high byte is byte k.
 pub fn number_at(text: &[u8], k: usize) -> u16
-    ensures { (result ≡ number_at text.now k) × (text.now ≡ text.now) }
+    ensures { result ≡ number_at text.now k }
 {
     if text.len() / 2 <= k {
         return 0;

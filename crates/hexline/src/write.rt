@@ -53,7 +53,7 @@ pub fn put_newline(out: &mut [u8], at: usize) -> usize
 
 // A line of bytes and its newline, all of it or nothing; the place after it.
 pub fn put_line(out: &mut [u8], at: usize, bytes: &[u8]) -> usize
-    ensures { ((result ≡ after out.old at (line_text bytes.now)) × (out.new ≡ lay out.old at (line_text bytes.now))) × (bytes.now ≡ bytes.now) }
+    ensures { (result ≡ after out.old at (line_text bytes.now)) × (out.new ≡ lay out.old at (line_text bytes.now)) }
 {
     let size = out.len();
     let count = bytes.len();

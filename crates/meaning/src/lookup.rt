@@ -12,7 +12,7 @@ use rows::{
 
 // Where a host vector goes.
 pub fn route_of(rows: &[u64], host: HostVector) -> Route
-    ensures { (result ≡ route_of rows.now host) × (rows.now ≡ rows.now) }
+    ensures { result ≡ route_of rows.now host }
 {
     let vector = host.0;
     let row = route_row(rows, vector);
@@ -25,7 +25,7 @@ pub fn route_of(rows: &[u64], host: HostVector) -> Route
 
 // What a source event of a subject does.
 pub fn source_event(rows: &[u64], subject: u8, event: u8) -> SourceEvent
-    ensures { (result ≡ source_event rows.now subject event) × (rows.now ≡ rows.now) }
+    ensures { result ≡ source_event rows.now subject event }
 {
     let row = event_row(rows, subject, event);
     if row == 0 {
@@ -38,7 +38,7 @@ pub fn source_event(rows: &[u64], subject: u8, event: u8) -> SourceEvent
 }
 
 fn default_event(rows: &[u64], subject: u8) -> u8
-    ensures { (result ≡ default_event rows.now subject) × (rows.now ≡ rows.now) }
+    ensures { result ≡ default_event rows.now subject }
 {
     if subject < SUBJECT_KEYS {
         return default_of(rows, subject);
@@ -48,7 +48,7 @@ fn default_event(rows: &[u64], subject: u8) -> u8
 
 // The source event of a trap: its line's, or the subject's default.
 pub fn trap_event(rows: &[u64], subject: u8, trap: u8) -> u8
-    ensures { (result ≡ trap_event rows.now subject trap) × (rows.now ≡ rows.now) }
+    ensures { result ≡ trap_event rows.now subject trap }
 {
     let row = trap_row(rows, subject, trap);
     if row == 0 {
@@ -60,7 +60,7 @@ pub fn trap_event(rows: &[u64], subject: u8, trap: u8) -> u8
 
 // What a target event does to its subject.
 pub fn target_event(rows: &[u64], subject: u8, event: u8) -> TargetAction
-    ensures { (result ≡ target_event rows.now subject event) × (rows.now ≡ rows.now) }
+    ensures { result ≡ target_event rows.now subject event }
 {
     let row = target_row(rows, subject, event);
     if row == 0 {
@@ -72,7 +72,7 @@ pub fn target_event(rows: &[u64], subject: u8, event: u8) -> TargetAction
 
 // A minor frame of a major and CPU, by its number in plan order.
 pub fn frame_at(rows: &[u64], major: u8, cpu: u8, minor: u8) -> Frame
-    ensures { (result ≡ frame_at rows.now major cpu minor) × (rows.now ≡ rows.now) }
+    ensures { result ≡ frame_at rows.now major cpu minor }
 {
     let row = minor_row(rows, major, cpu, minor);
     if row == 0 {
@@ -96,7 +96,7 @@ fn one_if_row(row: u64) -> u8
 
 // How many minor frames a major and CPU has.
 pub fn frame_count(rows: &[u64], major: u8, cpu: u8) -> u8
-    ensures { (result ≡ frame_count rows.now major cpu) × (rows.now ≡ rows.now) }
+    ensures { result ≡ frame_count rows.now major cpu }
 {
     let mut count: u8 = 0;
     let mut minor: u8 = 0;

@@ -46,7 +46,7 @@ fn handed_up(verdict: Verdict) -> Reading
 }
 
 pub fn read(text: &[u8]) -> Reading
-    ensures { (result ≡ read_of text.now) × (text.now ≡ text.now) }
+    ensures { result ≡ read_of text.now }
 {
     let size = text.len();
     if LONGEST_TEXT < size {

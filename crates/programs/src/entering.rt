@@ -104,7 +104,7 @@ impl Subject {
 impl Programs {
     // The subject of a number is entered.
     pub fn entering(self, rows: &[u64], number: u8) -> Entering
-        ensures { (result ≡ entering rows.now self number) × (rows.now ≡ rows.now) }
+        ensures { result ≡ entering rows.now self number }
     {
         let kept = self.subject_at(number);
         let taken = kept.event_taken(rows, number);

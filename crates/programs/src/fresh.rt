@@ -83,7 +83,7 @@ fn fresh_groups(rows: &[u64]) -> [Group; 16]
 
 impl Programs {
     pub fn fresh(rows: &[u64]) -> Programs
-        ensures { (result ≡ fresh_programs rows.now) × (rows.now ≡ rows.now) }
+        ensures { result ≡ fresh_programs rows.now }
     {
         let actives = fresh_actives(rows);
         let groups = fresh_groups(rows);

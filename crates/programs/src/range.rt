@@ -56,7 +56,7 @@ impl Programs {
     }
 
     pub fn in_range(self, rows: &[u64]) -> bool
-        ensures { (result ≡ programs_in_range rows.now self) × (rows.now ≡ rows.now) }
+        ensures { result ≡ programs_in_range rows.now self }
     {
         let counts = counts_of(rows);
         if !self.groups_in_range_below(rows, counts.partitions) {

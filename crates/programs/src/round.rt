@@ -61,7 +61,7 @@ impl Programs {
 
     // The active group of a partition if awake, or the next awake.
     pub fn chosen_group(self, rows: &[u64], partition: u8) -> Found
-        ensures { (result ≡ chosen_group rows.now self partition) × (rows.now ≡ rows.now) }
+        ensures { result ≡ chosen_group rows.now self partition }
     {
         let active = self.active_group(partition);
         let kept = self.group_at(active);

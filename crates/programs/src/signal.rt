@@ -65,7 +65,7 @@ impl Programs {
 
     // An interrupt: a routed vector becomes pending for its subject, others do nothing.
     pub fn interrupted(self, rows: &[u64], host: HostVector) -> Programs
-        ensures { (result ≡ interrupted rows.now self host) × (rows.now ≡ rows.now) }
+        ensures { result ≡ interrupted rows.now self host }
     {
         let route = route_of(rows, host);
         self.routed(rows, route)
@@ -73,7 +73,7 @@ impl Programs {
 
     // The target event, if there is one, is marked pending and its group wakes.
     pub fn signalled(self, rows: &[u64], signal: Signal) -> Programs
-        ensures { (result ≡ signalled rows.now self signal) × (rows.now ≡ rows.now) }
+        ensures { result ≡ signalled rows.now self signal }
     {
         match signal {
             Signal::Nothing => self,

@@ -75,7 +75,7 @@ impl Programs {
 
     // A source event of a subject.
     pub fn handled(self, rows: &[u64], subject: u8, event: SourceEvent) -> Programs
-        ensures { (result ≡ handled rows.now self subject event) × (rows.now ≡ rows.now) }
+        ensures { result ≡ handled rows.now self subject event }
     {
         let action = event.action;
         let signal = event.signal;

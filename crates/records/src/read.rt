@@ -168,7 +168,7 @@ fn read_fields(text: &[u8], kind: u8) -> Record
 
 // The record of the line that the text begins with.
 pub fn read_record(text: &[u8]) -> RecordLine
-    ensures { (result ≡ record_line text.now) × (text.now ≡ text.now) }
+    ensures { result ≡ record_line text.now }
 {
     let line = read_line(text);
     let Line::Whole { bytes, end } = line else {

@@ -26,7 +26,7 @@ pub const MINOR_KEYS: u8 = 8;
 
 // A minor frame.
 pub fn minor_row(rows: &[u64], major: u8, cpu: u8, minor: u8) -> u64
-    ensures { (result ≡ minor_row rows.now major cpu minor) × (rows.now ≡ rows.now) }
+    ensures { result ≡ minor_row rows.now major cpu minor }
 {
     if (major < MAJOR_KEYS) & ((cpu < CPU_KEYS) & (minor < MINOR_KEYS)) {
         let place = frames_place(major, cpu) + (minor as usize);
@@ -44,7 +44,7 @@ pub fn keyed_minor(major: u8, cpu: u8, minor: u8, row: u64) -> FrameLine
 
 // A source event.
 pub fn event_row(rows: &[u64], subject: u8, event: u8) -> u64
-    ensures { (result ≡ event_row rows.now subject event) × (rows.now ≡ rows.now) }
+    ensures { result ≡ event_row rows.now subject event }
 {
     if (subject < SUBJECT_KEYS) & (event < EVENT_KEYS) {
         let place = EVENTS + (subject as usize) * 16 + (event as usize);
@@ -62,7 +62,7 @@ pub fn keyed_event(subject: u8, event: u8, row: u64) -> EventLine
 
 // A trap.
 pub fn trap_row(rows: &[u64], subject: u8, trap: u8) -> u64
-    ensures { (result ≡ trap_row rows.now subject trap) × (rows.now ≡ rows.now) }
+    ensures { result ≡ trap_row rows.now subject trap }
 {
     if (subject < SUBJECT_KEYS) & (trap < TRAP_KEYS) {
         let place = TRAPS + (subject as usize) * 60 + (trap as usize);
@@ -80,7 +80,7 @@ pub fn keyed_trap(subject: u8, trap: u8, row: u64) -> TrapLine
 
 // A target event.
 pub fn target_row(rows: &[u64], subject: u8, event: u8) -> u64
-    ensures { (result ≡ target_row rows.now subject event) × (rows.now ≡ rows.now) }
+    ensures { result ≡ target_row rows.now subject event }
 {
     if (subject < SUBJECT_KEYS) & (event < TARGET_KEYS) {
         let place = TARGETS + (subject as usize) * 32 + (event as usize);
@@ -98,7 +98,7 @@ pub fn keyed_target(subject: u8, event: u8, row: u64) -> TargetLine
 
 // A host vector.
 pub fn route_row(rows: &[u64], host: u8) -> u64
-    ensures { (result ≡ route_row rows.now host) × (rows.now ≡ rows.now) }
+    ensures { result ≡ route_row rows.now host }
 {
     let place = ROUTES + (host as usize);
     row_at(rows, place)

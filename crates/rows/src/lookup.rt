@@ -9,7 +9,7 @@ use records::Counts;
 
 // The header's counts.
 pub fn counts_of(rows: &[u64]) -> Counts
-    ensures { (result ≡ counts_of rows.now) × (rows.now ≡ rows.now) }
+    ensures { result ≡ counts_of rows.now }
 {
     let row = row_at(rows, 0);
     counts_in(row)
@@ -17,14 +17,14 @@ pub fn counts_of(rows: &[u64]) -> Counts
 
 // Whether a line has its row at a place.
 pub fn row_given(rows: &[u64], place: usize) -> bool
-    ensures { (result ≡ given rows.now place) × (rows.now ≡ rows.now) }
+    ensures { result ≡ given rows.now place }
 {
     row_at(rows, place) != 0
 }
 
 // Whether a line gives the partition.
 pub fn partition_given(rows: &[u64], partition: u8) -> bool
-    ensures { (result ≡ partition_given rows.now partition) × (rows.now ≡ rows.now) }
+    ensures { result ≡ partition_given rows.now partition }
 {
     let place = PARTITIONS + (partition as usize);
     row_at(rows, place) != 0
@@ -32,7 +32,7 @@ pub fn partition_given(rows: &[u64], partition: u8) -> bool
 
 // The CPU of a partition.
 pub fn cpu_of(rows: &[u64], partition: u8) -> u8
-    ensures { (result ≡ cpu_of rows.now partition) × (rows.now ≡ rows.now) }
+    ensures { result ≡ cpu_of rows.now partition }
 {
     let place = PARTITIONS + (partition as usize);
     let row = row_at(rows, place);
@@ -41,7 +41,7 @@ pub fn cpu_of(rows: &[u64], partition: u8) -> u8
 
 // Whether a line gives the group.
 pub fn group_given(rows: &[u64], group: u8) -> bool
-    ensures { (result ≡ group_given rows.now group) × (rows.now ≡ rows.now) }
+    ensures { result ≡ group_given rows.now group }
 {
     let place = GROUPS + (group as usize);
     row_at(rows, place) != 0
@@ -49,7 +49,7 @@ pub fn group_given(rows: &[u64], group: u8) -> bool
 
 // The partition of a group.
 pub fn partition_of(rows: &[u64], group: u8) -> u8
-    ensures { (result ≡ partition_of rows.now group) × (rows.now ≡ rows.now) }
+    ensures { result ≡ partition_of rows.now group }
 {
     let place = GROUPS + (group as usize);
     let row = row_at(rows, place);
@@ -58,7 +58,7 @@ pub fn partition_of(rows: &[u64], group: u8) -> u8
 
 // Whether a line gives the subject.
 pub fn subject_given(rows: &[u64], subject: u8) -> bool
-    ensures { (result ≡ subject_given rows.now subject) × (rows.now ≡ rows.now) }
+    ensures { result ≡ subject_given rows.now subject }
 {
     let place = SUBJECTS + (subject as usize);
     row_at(rows, place) != 0
@@ -66,7 +66,7 @@ pub fn subject_given(rows: &[u64], subject: u8) -> bool
 
 // The group of a subject.
 pub fn group_of(rows: &[u64], subject: u8) -> u8
-    ensures { (result ≡ group_of rows.now subject) × (rows.now ≡ rows.now) }
+    ensures { result ≡ group_of rows.now subject }
 {
     let place = SUBJECTS + (subject as usize);
     let row = row_at(rows, place);
@@ -75,7 +75,7 @@ pub fn group_of(rows: &[u64], subject: u8) -> u8
 
 // The default trap event of a subject.
 pub fn default_of(rows: &[u64], subject: u8) -> u8
-    ensures { (result ≡ default_of rows.now subject) × (rows.now ≡ rows.now) }
+    ensures { result ≡ default_of rows.now subject }
 {
     let place = SUBJECTS + (subject as usize);
     let row = row_at(rows, place);
@@ -84,7 +84,7 @@ pub fn default_of(rows: &[u64], subject: u8) -> u8
 
 // Whether a major and CPU has a minor frame.
 pub fn is_framed(rows: &[u64], major: u8, cpu: u8) -> bool
-    ensures { (result ≡ framed rows.now major cpu) × (rows.now ≡ rows.now) }
+    ensures { result ≡ framed rows.now major cpu }
 {
     let place = frames_place(major, cpu);
     row_at(rows, place) != 0
@@ -92,7 +92,7 @@ pub fn is_framed(rows: &[u64], major: u8, cpu: u8) -> bool
 
 // The length of a minor frame of a major and CPU; 0 where there is none.
 pub fn length_at(rows: &[u64], major: u8, cpu: u8, minor: u8) -> u16
-    ensures { (result ≡ length_at rows.now major cpu minor) × (rows.now ≡ rows.now) }
+    ensures { result ≡ length_at rows.now major cpu minor }
 {
     let place = frames_place(major, cpu) + (minor as usize);
     let row = row_at(rows, place);

@@ -2,7 +2,7 @@
 ghost use Rattle.std.specs.Prelude.{◌≡◌, get_or, set};
 
 pub fn row_at(rows: &[u64], place: usize) -> u64
-    ensures { (result ≡ get_or rows.now place 0) × (rows.now ≡ rows.now) }
+    ensures { result ≡ get_or rows.now place 0 }
 {
     if rows.len() <= place {
         return 0;

@@ -33,7 +33,7 @@ fn is_behind(next: usize, rec: Record) -> bool
 
 // What a line gets, that has a number, after so many lines.
 pub fn verdict_of(rows: &[u64], done: Progress, line: u16, rec: Record) -> Verdict
-    ensures { (result ≡ judged (said_by rows.now) done.kind done.lines line (behind done.next rec) rec) × (rows.now ≡ rows.now) }
+    ensures { result ≡ judged (said_by rows.now) done.kind done.lines line (behind done.next rec) rec }
 {
     let kind = kind_of(rec);
     if wrong_kind(done.kind, kind) {

@@ -19,7 +19,7 @@ fn fewer(count: usize) -> usize
 
 // The sum of the lengths, of the first eight where more are lent.
 pub fn plan_length(lengths: &[u16]) -> u32
-    ensures { (result ≡ plan_length lengths.now) × (lengths.now ≡ lengths.now) }
+    ensures { result ≡ plan_length lengths.now }
 {
     let count = fewer(lengths.len());
     let mut sum: u32 = 0;

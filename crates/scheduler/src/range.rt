@@ -49,7 +49,7 @@ impl State {
     }
 
     pub fn in_range(self, rows: &[u64]) -> bool
-        ensures { (result ≡ in_range rows.now self) × (rows.now ≡ rows.now) }
+        ensures { result ≡ in_range rows.now self }
     {
         let clock = self.clock;
         if !clock.in_range(rows) {

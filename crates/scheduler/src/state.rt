@@ -69,7 +69,7 @@ impl State {
 
     // The state at the start.
     pub fn fresh(rows: &[u64]) -> State
-        ensures { (result ≡ fresh_state rows.now) × (rows.now ≡ rows.now) }
+        ensures { result ≡ fresh_state rows.now }
     {
         let clock = Clock::fresh(rows);
         let programs = Programs::fresh(rows);

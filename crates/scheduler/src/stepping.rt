@@ -151,7 +151,7 @@ impl State {
 
 // A call of a state that is in range, under a policy that is known.
 pub fn serve(rows: &[u64], state: State, heard: Heard) -> Stepped
-    ensures { (result ≡ served rows.now state heard) × (rows.now ≡ rows.now) }
+    ensures { result ≡ served rows.now state heard }
 {
     match heard {
         Heard::IllFormed => state.refused(Refusal::IllFormed),

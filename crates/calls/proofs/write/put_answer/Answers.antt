@@ -2,4 +2,4 @@
 use Rattle.calls.proofs.write.put_answer.Goals as goal
 
 pub returns : goal.returns
-returns c = rw c.answer_bytes-bytes.ensures at c.put_line.ensures.0
+returns c = rw c.answer_bytes-bytes.ensures at c.put_line.ensures

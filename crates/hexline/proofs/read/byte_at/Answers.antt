@@ -4,7 +4,7 @@ use Rattle.hexline.proofs.ByteLaws.{byte_past, byte_spelled}
 use Rattle.hexline.proofs.read.byte_at.Goals as goal
 
 pub returns-then-text-k : goal.returns-then-text-k
-returns-then-text-k c = (sym (byte_past _ _ c.if-text-k.true), refl)
+returns-then-text-k c = sym (byte_past _ _ c.if-text-k.true)
 
 pub returns : goal.returns
-returns c = (c.byte_of.ensures ∙ sym (byte_spelled _ _), refl)
+returns c = c.byte_of.ensures ∙ sym (byte_spelled _ _)

@@ -8,8 +8,8 @@ use Rattle.hexline.proofs.read.number_at.Goals as goal
 
 pub returns-then-text-k : goal.returns-then-text-k
 unfolding number_at
-returns-then-text-k c = (rw (byte_past c.args.text.now c.args.k c.if-text-k.true, byte_past c.args.text.now (c.args.k + 1) (omega arith)), refl)
+returns-then-text-k c = rw (byte_past c.args.text.now c.args.k c.if-text-k.true, byte_past c.args.text.now (c.args.k + 1) (omega arith))
 
 pub returns : goal.returns
 unfolding number_at
-returns c = (rw (c.byte_at-high.ensures.0, c.byte_at-low.ensures.0), refl)
+returns c = rw (c.byte_at-high.ensures, c.byte_at-low.ensures)

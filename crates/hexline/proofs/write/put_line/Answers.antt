@@ -21,13 +21,13 @@ pub returns-then-size-at : goal.returns-then-size-at
 returns-then-size-at c =
     let a = c.args in
     let h : length a.out.now < a.at + length (line_text a.bytes.now) = omega (arith, text_length a.bytes.now) in
-    ((sym (after_none _ _ _ h), sym (lay_none _ _ _ h)), refl)
+    (sym (after_none _ _ _ h), sym (lay_none _ _ _ h))
 
 pub returns-then-size-at-2 : goal.returns-then-size-at-2
 returns-then-size-at-2 c =
     let a = c.args in
     let h : length a.out.now < a.at + length (line_text a.bytes.now) = omega (arith, text_length a.bytes.now) in
-    ((sym (after_none _ _ _ h), sym (lay_none _ _ _ h)), refl)
+    (sym (after_none _ _ _ h), sym (lay_none _ _ _ h))
 
 pub loop-i-init : goal.loop-i-init
 unfolding pairs_of
@@ -58,4 +58,4 @@ pub shape_of-out : goal.shape_of-out
 shape_of-out c = laid_length (laid c)
 
 pub returns : goal.returns
-returns c = ((laid_after (laid c), laid_is (laid c)), refl)
+returns c = (laid_after (laid c), laid_is (laid c))

@@ -6,8 +6,8 @@ use Rattle.meaning.proofs.lookup.default_event.Goals as goal
 
 pub returns-then-subject-lt-SUBJECT_KEYS : goal.returns-then-subject-lt-SUBJECT_KEYS
 unfolding default_event
-returns-then-subject-lt-SUBJECT_KEYS c = (rw (lt-ltb _ _ c.if-subject-lt-SUBJECT_KEYS.true, c.default_of.ensures.0), refl)
+returns-then-subject-lt-SUBJECT_KEYS c = rw (lt-ltb _ _ c.if-subject-lt-SUBJECT_KEYS.true, c.default_of.ensures)
 
 pub returns : goal.returns
 unfolding default_event
-returns c = (rw (le-ltb _ _ c.if-subject-lt-SUBJECT_KEYS.false), refl)
+returns c = rw (le-ltb _ _ c.if-subject-lt-SUBJECT_KEYS.false)

@@ -7,8 +7,8 @@ use Rattle.meaning.proofs.lookup.frame_at.Goals as goal
 
 pub returns-then-row-eq0 : goal.returns-then-row-eq0
 unfolding frame_at no_frame
-returns-then-row-eq0 c = (rw (eq-eqb _ 0 (sym c.minor_row-row.ensures.0 ∙ c.if-row-eq0.true)), refl)
+returns-then-row-eq0 c = rw (eq-eqb _ 0 (sym c.minor_row-row.ensures ∙ c.if-row-eq0.true))
 
 pub returns : goal.returns
 unfolding frame_at
-returns c = (c.frame_from.ensures ∙ rw (c.keyed_minor-line.ensures, c.minor_row-row.ensures.0, ne_eqb _ 0 (λ q. c.if-row-eq0.false (c.minor_row-row.ensures.0 ∙ q))), refl)
+returns c = c.frame_from.ensures ∙ rw (c.keyed_minor-line.ensures, c.minor_row-row.ensures, ne_eqb _ 0 (λ q. c.if-row-eq0.false (c.minor_row-row.ensures ∙ q)))

@@ -6,8 +6,8 @@ use Rattle.meaning.proofs.lookup.route_of.Goals as goal
 
 pub returns-then-row-eq0 : goal.returns-then-row-eq0
 unfolding route_of
-returns-then-row-eq0 c = (rw (eq-eqb _ 0 (sym c.route_row-row.ensures.0 ∙ c.if-row-eq0.true)), refl)
+returns-then-row-eq0 c = rw (eq-eqb _ 0 (sym c.route_row-row.ensures ∙ c.if-row-eq0.true))
 
 pub returns : goal.returns
 unfolding route_of
-returns c = (c.route_from.ensures ∙ rw (c.keyed_route-line.ensures, c.route_row-row.ensures.0, ne_eqb _ 0 (λ q. c.if-row-eq0.false (c.route_row-row.ensures.0 ∙ q))), refl)
+returns c = c.route_from.ensures ∙ rw (c.keyed_route-line.ensures, c.route_row-row.ensures, ne_eqb _ 0 (λ q. c.if-row-eq0.false (c.route_row-row.ensures ∙ q)))

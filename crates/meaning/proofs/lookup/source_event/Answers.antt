@@ -7,8 +7,8 @@ use Rattle.meaning.proofs.lookup.source_event.Goals as goal
 
 pub returns-then-row-eq0 : goal.returns-then-row-eq0
 unfolding source_event no_event
-returns-then-row-eq0 c = (rw (eq-eqb _ 0 (sym c.event_row-row.ensures.0 ∙ c.if-row-eq0.true)), refl)
+returns-then-row-eq0 c = rw (eq-eqb _ 0 (sym c.event_row-row.ensures ∙ c.if-row-eq0.true))
 
 pub returns : goal.returns
 unfolding source_event
-returns c = (c.source_from.ensures ∙ rw (c.keyed_event-line.ensures, c.event_row-row.ensures.0, ne_eqb _ 0 (λ q. c.if-row-eq0.false (c.event_row-row.ensures.0 ∙ q))), refl)
+returns c = c.source_from.ensures ∙ rw (c.keyed_event-line.ensures, c.event_row-row.ensures, ne_eqb _ 0 (λ q. c.if-row-eq0.false (c.event_row-row.ensures ∙ q)))

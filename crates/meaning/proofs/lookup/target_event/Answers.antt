@@ -6,8 +6,8 @@ use Rattle.meaning.proofs.lookup.target_event.Goals as goal
 
 pub returns-then-row-eq0 : goal.returns-then-row-eq0
 unfolding target_event
-returns-then-row-eq0 c = (rw (eq-eqb _ 0 (sym c.target_row-row.ensures.0 ∙ c.if-row-eq0.true)), refl)
+returns-then-row-eq0 c = rw (eq-eqb _ 0 (sym c.target_row-row.ensures ∙ c.if-row-eq0.true))
 
 pub returns : goal.returns
 unfolding target_event
-returns c = (c.target_from.ensures ∙ rw (c.keyed_target-line.ensures, c.target_row-row.ensures.0, ne_eqb _ 0 (λ q. c.if-row-eq0.false (c.target_row-row.ensures.0 ∙ q))), refl)
+returns c = c.target_from.ensures ∙ rw (c.keyed_target-line.ensures, c.target_row-row.ensures, ne_eqb _ 0 (λ q. c.if-row-eq0.false (c.target_row-row.ensures ∙ q)))

@@ -4,4 +4,4 @@ use Rattle.policy.proofs.WriteLaws.{known_by_rows}
 use Rattle.policy.proofs.own_text.known.Goals as goal
 
 pub returns : goal.returns
-returns c = sym (known_by_rows _ _ c.known_rows.ensures.0)
+returns c = sym (known_by_rows _ _ c.known_rows.ensures)

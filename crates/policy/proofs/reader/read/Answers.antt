@@ -20,14 +20,14 @@ use Rattle.policy.proofs.reader.read.Goals as goal
 next : (c : After-rows-in-loop-at-2-1) → Going c.args.text.now c.put-after.new.rows c.put-after.result.kind c.put-after.result.next c.put-after.result.lines (c.loop-at.at + c.in-Got.used)
 unfolding progress_after
 next c =
-    let got_line : record_line (drop c.loop-at.at c.args.text.now) ≡ Got c.in-Got.rec c.in-Got.used = (let at_line : c.read_record-line.result ≡ record_line (drop c.loop-at.at c.args.text.now) = c.read_record-line.ensures.0 ∙ ap record_line (tail_is c.loop-at.at c.args.text.now) in
+    let got_line : record_line (drop c.loop-at.at c.args.text.now) ≡ Got c.in-Got.rec c.in-Got.used = (let at_line : c.read_record-line.result ≡ record_line (drop c.loop-at.at c.args.text.now) = c.read_record-line.ensures ∙ ap record_line (tail_is c.loop-at.at c.args.text.now) in
     sym at_line ∙ c.in-Got.is) in
-    let accepted : verdict c.loop-at.invariant.earlier c.in-Got.rec ≡ Accepted = (let at_verdict : c.verdict_of-verdict.result ≡ verdict c.loop-at.invariant.earlier c.in-Got.rec = c.verdict_of-verdict.ensures.0 ∙ by_table _ _ _ _ _ _ c.loop-at.invariant _ _ refl in
+    let accepted : verdict c.loop-at.invariant.earlier c.in-Got.rec ≡ Accepted = (let at_verdict : c.verdict_of-verdict.result ≡ verdict c.loop-at.invariant.earlier c.in-Got.rec = c.verdict_of-verdict.ensures ∙ by_table _ _ _ _ _ _ c.loop-at.invariant _ _ refl in
     sym at_verdict ∙ c.in-Accepted.is) in
     rw (c.put-after.ensures.0, c.put-after.ensures.1) (going_on _ _ _ _ _ _ c.loop-at.invariant (omega arith) _ _ got_line accepted)
 
 pub returns-then-size-gt-LONGEST_TEXT : goal.returns-then-size-gt-LONGEST_TEXT
-returns-then-size-gt-LONGEST_TEXT c = (c.refused.ensures ∙ sym (too_long _ c.if-size-gt-LONGEST_TEXT.true), refl)
+returns-then-size-gt-LONGEST_TEXT c = c.refused.ensures ∙ sym (too_long _ c.if-size-gt-LONGEST_TEXT.true)
 
 pub loop-at-init : goal.loop-at-init
 loop-at-init c = going_start _ (omega arith)
@@ -37,12 +37,9 @@ overflow_add-number c = omega (arith, c.loop-at.invariant.counted)
 
 pub returns-in_default : goal.returns-in_default
 returns-in_default c =
-    let at_line : c.read_record-line.result ≡ record_line (drop c.loop-at.at c.args.text.now) = c.read_record-line.ensures.0 ∙ ap record_line (tail_is c.loop-at.at c.args.text.now) in
-    let g = c.loop-at in (
-      c.no_record.ensures
-          ∙ sym (going_no_record _ g.rows g.done.kind g.done.next g.done.lines g.at g.invariant (omega arith) _ (sym at_line) (λ r end q. ⊎_elim (λ t. omega arith) (λ t. omega arith) (rw q at (opened c.in_default.in_default-own.keys2)))),
-      refl,
-    )
+    let at_line : c.read_record-line.result ≡ record_line (drop c.loop-at.at c.args.text.now) = c.read_record-line.ensures ∙ ap record_line (tail_is c.loop-at.at c.args.text.now) in
+    let g = c.loop-at in c.no_record.ensures
+          ∙ sym (going_no_record _ g.rows g.done.kind g.done.next g.done.lines g.at g.invariant (omega arith) _ (sym at_line) (λ r end q. ⊎_elim (λ t. omega arith) (λ t. omega arith) (rw q at (opened c.in_default.in_default-own.keys2))))
 
 pub slice_bounds-verdict_of-end : goal.slice_bounds-verdict_of-end
 slice_bounds-verdict_of-end c = sym c.loop-at.invariant.tied.size
@@ -50,19 +47,19 @@ slice_bounds-verdict_of-end c = sym c.loop-at.invariant.tied.size
 pub returns-in_default-verdict : goal.returns-in_default-verdict
 unfolding handed_up refusal
 returns-in_default-verdict c =
-    let got_line : record_line (drop c.loop-at.at c.args.text.now) ≡ Got c.in-Got.rec c.in-Got.used = (let at_line : c.read_record-line.result ≡ record_line (drop c.loop-at.at c.args.text.now) = c.read_record-line.ensures.0 ∙ ap record_line (tail_is c.loop-at.at c.args.text.now) in
+    let got_line : record_line (drop c.loop-at.at c.args.text.now) ≡ Got c.in-Got.rec c.in-Got.used = (let at_line : c.read_record-line.result ≡ record_line (drop c.loop-at.at c.args.text.now) = c.read_record-line.ensures ∙ ap record_line (tail_is c.loop-at.at c.args.text.now) in
     sym at_line ∙ c.in-Got.is) in
-    let at_verdict : c.verdict_of-verdict.result ≡ verdict c.loop-at.invariant.earlier c.in-Got.rec = c.verdict_of-verdict.ensures.0 ∙ by_table _ _ _ _ _ _ c.loop-at.invariant _ _ refl in
+    let at_verdict : c.verdict_of-verdict.result ≡ verdict c.loop-at.invariant.earlier c.in-Got.rec = c.verdict_of-verdict.ensures ∙ by_table _ _ _ _ _ _ c.loop-at.invariant _ _ refl in
     let g = c.loop-at in
     let v = sym at_verdict ∙ c.in_default-verdict.is in
-    (c.handed_up.ensures ∙ rw c.in_default-verdict.is (sym (going_refused _ g.rows g.done.kind g.done.next g.done.lines g.at g.invariant (omega arith) _ _ _ got_line v)), refl)
+    c.handed_up.ensures ∙ rw c.in_default-verdict.is (sym (going_refused _ g.rows g.done.kind g.done.next g.done.lines g.at g.invariant (omega arith) _ _ _ got_line v))
 
 pub slice_bounds-put-end : goal.slice_bounds-put-end
 slice_bounds-put-end c = sym c.loop-at.invariant.tied.size
 
 pub put-after-requires : goal.put-after-requires
 put-after-requires c =
-    let accepted : verdict c.loop-at.invariant.earlier c.in-Got.rec ≡ Accepted = (let at_verdict : c.verdict_of-verdict.result ≡ verdict c.loop-at.invariant.earlier c.in-Got.rec = c.verdict_of-verdict.ensures.0 ∙ by_table _ _ _ _ _ _ c.loop-at.invariant _ _ refl in
+    let accepted : verdict c.loop-at.invariant.earlier c.in-Got.rec ≡ Accepted = (let at_verdict : c.verdict_of-verdict.result ≡ verdict c.loop-at.invariant.earlier c.in-Got.rec = c.verdict_of-verdict.ensures ∙ by_table _ _ _ _ _ _ c.loop-at.invariant _ _ refl in
     sym at_verdict ∙ c.in-Accepted.is) in
     (going_place _ _ _ _ _ _ c.loop-at.invariant (omega arith) _ accepted, omega (arith, c.loop-at.invariant.counted))
 
@@ -71,7 +68,7 @@ overflow_add-at c = omega (arith, (next c).within)
 
 pub loop-at-smaller : goal.loop-at-smaller
 loop-at-smaller c =
-    let got_line : record_line (drop c.loop-at.at c.args.text.now) ≡ Got c.in-Got.rec c.in-Got.used = (let at_line : c.read_record-line.result ≡ record_line (drop c.loop-at.at c.args.text.now) = c.read_record-line.ensures.0 ∙ ap record_line (tail_is c.loop-at.at c.args.text.now) in
+    let got_line : record_line (drop c.loop-at.at c.args.text.now) ≡ Got c.in-Got.rec c.in-Got.used = (let at_line : c.read_record-line.result ≡ record_line (drop c.loop-at.at c.args.text.now) = c.read_record-line.ensures ∙ ap record_line (tail_is c.loop-at.at c.args.text.now) in
     sym at_line ∙ c.in-Got.is) in
     omega (arith, (next c).within, (got _ _ _ got_line).some)
 
@@ -82,8 +79,8 @@ pub overflow_add-number-2 : goal.overflow_add-number-2
 overflow_add-number-2 c = omega (arith, c.loop-at.invariant.counted, c.loop-at.invariant.within)
 
 pub returns-then-done-ne-END : goal.returns-then-done-ne-END
-returns-then-done-ne-END c = (c.refused-then-done-ne-END.ensures ∙ sym (end_missing _ _ _ _ _ _ c.loop-at.invariant (omega arith) c.if-done-ne-END.true), refl)
+returns-then-done-ne-END c = c.refused-then-done-ne-END.ensures ∙ sym (end_missing _ _ _ _ _ _ c.loop-at.invariant (omega arith) c.if-done-ne-END.true)
 
 pub returns : goal.returns
 unfolding acceptance
-returns c = (sym (end_accepted _ _ _ _ _ _ c.loop-at.invariant (omega arith) c.if-done-ne-END.false), refl)
+returns c = sym (end_accepted _ _ _ _ _ _ c.loop-at.invariant (omega arith) c.if-done-ne-END.false)

@@ -20,7 +20,7 @@ overflow_add-lines c = omega (arith, c.loop-i.invariant.1.few)
 pub loop-i-preserved : goal.loop-i-preserved
 loop-i-preserved c =
     let s = c.loop-i.invariant.1 in
-    let row = c.row_at-row.ensures.0 in (
+    let row = c.row_at-row.ensures in (
       omega arith,
       elim c.if-row-ne0.branch [
         | then-row-ne0 w ↦ sized_line _ _ _ _ s _ _ _ _ (line_there _ _ _ _ row w.if-row-ne0.true w.record_at-rec.ensures) w.line_size-bytes.ensures w.lines-is w.bytes-is

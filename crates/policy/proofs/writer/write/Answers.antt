@@ -7,11 +7,11 @@ use Rattle.policy.proofs.WriteLaws.{size_lines, size_bytes, lines_fit, unknown, 
 use Rattle.policy.proofs.writer.write.Goals as goal
 
 pub returns-then-not-known_rows : goal.returns-then-not-known_rows
-returns-then-not-known_rows c = unknown _ _ (known_by_rows _ _ c.known_rows.ensures.0 ∙ c.if-not-known_rows.true)
+returns-then-not-known_rows c = unknown _ _ (known_by_rows _ _ c.known_rows.ensures ∙ c.if-not-known_rows.true)
 
 pub returns-then-out-size : goal.returns-then-out-size
 returns-then-out-size c =
-    let is_known : known c.args.p ≡ true = known_by_rows _ _ c.known_rows.ensures.0 ∙ c.if-not-known_rows.false in
+    let is_known : known c.args.p ≡ true = known_by_rows _ _ c.known_rows.ensures ∙ c.if-not-known_rows.false in
     let p = c.args.p in
     no_room p _ is_known (omega (arith, size_bytes p _ c.text_size-size.ensures))
 
@@ -22,7 +22,7 @@ put_lines-at-requires c =
 
 pub returns : goal.returns
 returns c =
-    let is_known : known c.args.p ≡ true = known_by_rows _ _ c.known_rows.ensures.0 ∙ c.if-not-known_rows.false in
+    let is_known : known c.args.p ≡ true = known_by_rows _ _ c.known_rows.ensures ∙ c.if-not-known_rows.false in
     let p = c.args.p in
     let size = c.text_size-size.ensures in
     let put = c.put_lines-at.ensures in

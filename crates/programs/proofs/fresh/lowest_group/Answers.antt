@@ -10,11 +10,11 @@ loop-group-init c = lowest_start _ _
 
 pub returns-then-home-partition : goal.returns-then-home-partition
 unfolding lowest_group
-returns-then-home-partition c = rw (← c.counts_of-counts.ensures.0) (lowest_hit _ _ _ c.loop-group.invariant c.loop-group-test.true (eq-eqb _ _ (sym c.partition_of-home.ensures.0 ∙ c.if-home-partition.true)))
+returns-then-home-partition c = rw (← c.counts_of-counts.ensures) (lowest_hit _ _ _ c.loop-group.invariant c.loop-group-test.true (eq-eqb _ _ (sym c.partition_of-home.ensures ∙ c.if-home-partition.true)))
 
 pub loop-group-preserved : goal.loop-group-preserved
-loop-group-preserved c = lowest_pass _ _ _ c.loop-group.invariant c.loop-group-test.true (ne_eqb _ _ (λ e. c.if-home-partition.false (c.partition_of-home.ensures.0 ∙ e)))
+loop-group-preserved c = lowest_pass _ _ _ c.loop-group.invariant c.loop-group-test.true (ne_eqb _ _ (λ e. c.if-home-partition.false (c.partition_of-home.ensures ∙ e)))
 
 pub returns : goal.returns
 unfolding lowest_group
-returns c = rw (← c.counts_of-counts.ensures.0) (lowest_none _ _ _ c.loop-group.invariant c.loop-group-test.false)
+returns c = rw (← c.counts_of-counts.ensures) (lowest_none _ _ _ c.loop-group.invariant c.loop-group-test.false)

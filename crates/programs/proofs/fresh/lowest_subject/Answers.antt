@@ -10,11 +10,11 @@ loop-subject-init c = lowest_start _ _
 
 pub returns-then-home-group : goal.returns-then-home-group
 unfolding lowest_subject
-returns-then-home-group c = rw (← c.counts_of-counts.ensures.0) (lowest_hit _ _ _ c.loop-subject.invariant c.loop-subject-test.true (eq-eqb _ _ (sym c.group_of-home.ensures.0 ∙ c.if-home-group.true)))
+returns-then-home-group c = rw (← c.counts_of-counts.ensures) (lowest_hit _ _ _ c.loop-subject.invariant c.loop-subject-test.true (eq-eqb _ _ (sym c.group_of-home.ensures ∙ c.if-home-group.true)))
 
 pub loop-subject-preserved : goal.loop-subject-preserved
-loop-subject-preserved c = lowest_pass _ _ _ c.loop-subject.invariant c.loop-subject-test.true (ne_eqb _ _ (λ e. c.if-home-group.false (c.group_of-home.ensures.0 ∙ e)))
+loop-subject-preserved c = lowest_pass _ _ _ c.loop-subject.invariant c.loop-subject-test.true (ne_eqb _ _ (λ e. c.if-home-group.false (c.group_of-home.ensures ∙ e)))
 
 pub returns : goal.returns
 unfolding lowest_subject
-returns c = rw (← c.counts_of-counts.ensures.0) (lowest_none _ _ _ c.loop-subject.invariant c.loop-subject-test.false)
+returns c = rw (← c.counts_of-counts.ensures) (lowest_none _ _ _ c.loop-subject.invariant c.loop-subject-test.false)

@@ -5,4 +5,4 @@ use Rattle.records.proofs.read.read_event.Goals as goal
 
 pub returns : goal.returns
 unfolding event_in byte_at
-returns c = rw (c.byte_at-subject.ensures.0, c.byte_at-event.ensures.0, c.byte_at-action.ensures.0, c.byte_at-irq.ensures.0, c.byte_at-target.ensures.0, c.byte_at-target_event.ensures.0, c.byte_at-kick.ensures.0)
+returns c = rw (c.byte_at-subject.ensures, c.byte_at-event.ensures, c.byte_at-action.ensures, c.byte_at-irq.ensures, c.byte_at-target.ensures, c.byte_at-target_event.ensures, c.byte_at-kick.ensures)

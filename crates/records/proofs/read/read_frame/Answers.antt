@@ -5,4 +5,4 @@ use Rattle.records.proofs.read.read_frame.Goals as goal
 
 pub returns : goal.returns
 unfolding frame_in byte_at number_at
-returns c = rw (c.byte_at-major.ensures.0, c.byte_at-cpu.ensures.0, c.byte_at-partition.ensures.0, c.number_at-length.ensures.0)
+returns c = rw (c.byte_at-major.ensures, c.byte_at-cpu.ensures, c.byte_at-partition.ensures, c.number_at-length.ensures)

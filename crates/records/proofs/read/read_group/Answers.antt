@@ -5,4 +5,4 @@ use Rattle.records.proofs.read.read_group.Goals as goal
 
 pub returns : goal.returns
 unfolding group_in byte_at
-returns c = rw (c.byte_at-number.ensures.0, c.byte_at-partition.ensures.0)
+returns c = rw (c.byte_at-number.ensures, c.byte_at-partition.ensures)

@@ -5,4 +5,4 @@ use Rattle.records.proofs.read.read_header.Goals as goal
 
 pub returns : goal.returns
 unfolding header_in byte_at
-returns c = rw (c.byte_at-cpus.ensures.0, c.byte_at-subjects.ensures.0, c.byte_at-groups.ensures.0, c.byte_at-partitions.ensures.0, c.byte_at-majors.ensures.0)
+returns c = rw (c.byte_at-cpus.ensures, c.byte_at-subjects.ensures, c.byte_at-groups.ensures, c.byte_at-partitions.ensures, c.byte_at-majors.ensures)

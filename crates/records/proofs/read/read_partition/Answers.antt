@@ -5,4 +5,4 @@ use Rattle.records.proofs.read.read_partition.Goals as goal
 
 pub returns : goal.returns
 unfolding partition_in byte_at
-returns c = rw (c.byte_at-number.ensures.0, c.byte_at-cpu.ensures.0)
+returns c = rw (c.byte_at-number.ensures, c.byte_at-cpu.ensures)

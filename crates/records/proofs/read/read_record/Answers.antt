@@ -6,14 +6,14 @@ use Rattle.records.proofs.LineLaws.{line_got, line_wrong, line_ill_formed}
 use Rattle.records.proofs.read.read_record.Goals as goal
 
 pub returns-in_default : goal.returns-in_default
-returns-in_default c = (sym (line_ill_formed _ (λ n end e. c.in_default.not-Whole n end (c.read_line-line.ensures.0 ∙ e))), refl)
+returns-in_default c = sym (line_ill_formed _ (λ n end e. c.in_default.not-Whole n end (c.read_line-line.ensures ∙ e)))
 
 pub returns-then-bytes-size : goal.returns-then-bytes-size
-returns-then-bytes-size c = (sym (line_wrong _ _ _ (sym c.read_line-line.ensures.0 ∙ c.in-Whole.is) (λ e. c.if-bytes-size.true (e ∙ sym (c.size_of-size.ensures ∙ ap size_of c.byte_at-kind.ensures.0)))), refl)
+returns-then-bytes-size c = sym (line_wrong _ _ _ (sym c.read_line-line.ensures ∙ c.in-Whole.is) (λ e. c.if-bytes-size.true (e ∙ sym (c.size_of-size.ensures ∙ ap size_of c.byte_at-kind.ensures))))
 
 pub returns : goal.returns
 unfolding record_of byte_at
 returns c =
-    let size = c.size_of-size.ensures ∙ ap size_of c.byte_at-kind.ensures.0 in
-    let got = line_got _ _ _ (sym c.read_line-line.ensures.0 ∙ c.in-Whole.is) (c.if-bytes-size.false ∙ size) in
-    (rw (got, c.read_fields-rec.ensures, c.byte_at-kind.ensures.0), refl)
+    let size = c.size_of-size.ensures ∙ ap size_of c.byte_at-kind.ensures in
+    let got = line_got _ _ _ (sym c.read_line-line.ensures ∙ c.in-Whole.is) (c.if-bytes-size.false ∙ size) in
+    rw (got, c.read_fields-rec.ensures, c.byte_at-kind.ensures)

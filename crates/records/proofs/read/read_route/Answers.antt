@@ -5,4 +5,4 @@ use Rattle.records.proofs.read.read_route.Goals as goal
 
 pub returns : goal.returns
 unfolding route_in byte_at
-returns c = rw (c.byte_at-host.ensures.0, c.byte_at-subject.ensures.0, c.byte_at-vector.ensures.0, c.byte_at-irq.ensures.0)
+returns c = rw (c.byte_at-host.ensures, c.byte_at-subject.ensures, c.byte_at-vector.ensures, c.byte_at-irq.ensures)

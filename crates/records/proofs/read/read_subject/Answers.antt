@@ -5,4 +5,4 @@ use Rattle.records.proofs.read.read_subject.Goals as goal
 
 pub returns : goal.returns
 unfolding subject_in byte_at
-returns c = rw (c.byte_at-number.ensures.0, c.byte_at-group.ensures.0, c.byte_at-default_event.ensures.0)
+returns c = rw (c.byte_at-number.ensures, c.byte_at-group.ensures, c.byte_at-default_event.ensures)

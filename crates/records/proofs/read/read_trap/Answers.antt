@@ -5,4 +5,4 @@ use Rattle.records.proofs.read.read_trap.Goals as goal
 
 pub returns : goal.returns
 unfolding trap_in byte_at
-returns c = rw (c.byte_at-subject.ensures.0, c.byte_at-trap.ensures.0, c.byte_at-event.ensures.0)
+returns c = rw (c.byte_at-subject.ensures, c.byte_at-trap.ensures, c.byte_at-event.ensures)

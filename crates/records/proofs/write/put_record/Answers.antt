@@ -15,4 +15,4 @@ pub returns : goal.returns
 returns c =
     let rec = c.args.rec in
     let front : take (c.record_size-size.result - 0) (drop 0 c.record_bytes-bytes.result) ≡ bytes_of rec = rw (c.record_bytes-bytes.ensures, c.record_size-size.ensures, sub-zero) (padded_front (bytes_of rec)) in
-    rw front at c.put_line.ensures.0
+    rw front at c.put_line.ensures

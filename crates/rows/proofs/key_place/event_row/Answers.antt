@@ -5,8 +5,8 @@ use Rattle.rows.proofs.key_place.event_row.Goals as goal
 
 pub returns-then-subject-event : goal.returns-then-subject-event
 unfolding event_row
-returns-then-subject-event c = (rw (c.if-subject-event.true, c.row_at.ensures.0), refl)
+returns-then-subject-event c = rw (c.if-subject-event.true, c.row_at.ensures)
 
 pub returns : goal.returns
 unfolding event_row
-returns c = (rw c.if-subject-event.false, refl)
+returns c = rw c.if-subject-event.false

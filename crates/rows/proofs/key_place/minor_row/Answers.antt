@@ -11,8 +11,8 @@ overflow_add-place c = omega (arith, c.frames_place.ensures)
 
 pub returns-then-major-cpu : goal.returns-then-major-cpu
 unfolding minor_row
-returns-then-major-cpu c = (rw (c.if-major-cpu.true, c.row_at.ensures.0, c.frames_place.ensures), refl)
+returns-then-major-cpu c = rw (c.if-major-cpu.true, c.row_at.ensures, c.frames_place.ensures)
 
 pub returns : goal.returns
 unfolding minor_row
-returns c = (rw c.if-major-cpu.false, refl)
+returns c = rw c.if-major-cpu.false

@@ -7,4 +7,4 @@ use Rattle.rows.proofs.key_place.route_row.Goals as goal
 
 pub returns : goal.returns
 unfolding route_row
-returns c = (rw (lt-ltb c.args.host 256 (omega arith), c.row_at.ensures.0), refl)
+returns c = rw (lt-ltb c.args.host 256 (omega arith), c.row_at.ensures)

@@ -6,4 +6,4 @@ use Rattle.rows.proofs.lookup.counts_of.Goals as goal
 
 pub returns : goal.returns
 unfolding counts_of
-returns c = (c.counts_in.ensures ∙ ap counts_in c.row_at-row.ensures.0, refl)
+returns c = c.counts_in.ensures ∙ ap counts_in c.row_at-row.ensures

@@ -5,4 +5,4 @@ use Rattle.rows.proofs.lookup.default_of.Goals as goal
 
 pub returns : goal.returns
 unfolding default_of
-returns c = (rw c.row_at-row.ensures.0, refl)
+returns c = rw c.row_at-row.ensures

@@ -5,4 +5,4 @@ use Rattle.rows.proofs.lookup.group_of.Goals as goal
 
 pub returns : goal.returns
 unfolding group_of
-returns c = (rw c.row_at-row.ensures.0, refl)
+returns c = rw c.row_at-row.ensures

@@ -5,4 +5,4 @@ use Rattle.rows.proofs.lookup.is_framed.Goals as goal
 
 pub returns : goal.returns
 unfolding framed given
-returns c = (rw (c.row_at.ensures.0, c.frames_place-place.ensures), refl)
+returns c = rw (c.row_at.ensures, c.frames_place-place.ensures)

@@ -11,4 +11,4 @@ overflow_add-place c = omega arith
 
 pub returns : goal.returns
 unfolding length_at
-returns c = (rw (c.row_at-row.ensures.0, c.frames_place.ensures), refl)
+returns c = rw (c.row_at-row.ensures, c.frames_place.ensures)

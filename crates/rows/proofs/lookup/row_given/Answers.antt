@@ -5,4 +5,4 @@ use Rattle.rows.proofs.lookup.row_given.Goals as goal
 
 pub returns : goal.returns
 unfolding given
-returns c = (rw c.row_at.ensures.0, refl)
+returns c = rw c.row_at.ensures

@@ -5,4 +5,4 @@ use Rattle.rows.proofs.lookup.subject_given.Goals as goal
 
 pub returns : goal.returns
 unfolding subject_given given
-returns c = (rw c.row_at.ensures.0, refl)
+returns c = rw c.row_at.ensures

@@ -9,10 +9,10 @@ pub loop-g-init : goal.loop-g-init
 loop-g-init c = (omega arith, any_none _)
 
 pub returns-then-partition_of-partition : goal.returns-then-partition_of-partition
-returns-then-partition_of-partition c = sym (any_stop _ _ c.loop-g.g (omega arith) (eq-eqb _ _ (sym c.partition_of.ensures.0 ∙ c.if-partition_of-partition.true)))
+returns-then-partition_of-partition c = sym (any_stop _ _ c.loop-g.g (omega arith) (eq-eqb _ _ (sym c.partition_of.ensures ∙ c.if-partition_of-partition.true)))
 
 pub loop-g-preserved : goal.loop-g-preserved
-loop-g-preserved c = (omega arith, any_more _ _ c.loop-g.invariant.1 (ne_eqb _ _ (λ e. c.if-partition_of-partition.false (c.partition_of.ensures.0 ∙ e))))
+loop-g-preserved c = (omega arith, any_more _ _ c.loop-g.invariant.1 (ne_eqb _ _ (λ e. c.if-partition_of-partition.false (c.partition_of.ensures ∙ e))))
 
 pub returns : goal.returns
 returns c = any_end _ _ c.loop-g.g (omega arith) c.loop-g.invariant.1

@@ -9,10 +9,10 @@ pub loop-s-init : goal.loop-s-init
 loop-s-init c = (omega arith, any_none _)
 
 pub returns-then-group_of-group : goal.returns-then-group_of-group
-returns-then-group_of-group c = sym (any_stop _ _ c.loop-s.s (omega arith) (eq-eqb _ _ (sym c.group_of.ensures.0 ∙ c.if-group_of-group.true)))
+returns-then-group_of-group c = sym (any_stop _ _ c.loop-s.s (omega arith) (eq-eqb _ _ (sym c.group_of.ensures ∙ c.if-group_of-group.true)))
 
 pub loop-s-preserved : goal.loop-s-preserved
-loop-s-preserved c = (omega arith, any_more _ _ c.loop-s.invariant.1 (ne_eqb _ _ (λ e. c.if-group_of-group.false (c.group_of.ensures.0 ∙ e))))
+loop-s-preserved c = (omega arith, any_more _ _ c.loop-s.invariant.1 (ne_eqb _ _ (λ e. c.if-group_of-group.false (c.group_of.ensures ∙ e))))
 
 pub returns : goal.returns
 returns c = any_end _ _ c.loop-s.s (omega arith) c.loop-s.invariant.1

@@ -5,4 +5,4 @@ use Rattle.rules.proofs.ends.is_complete.Goals as goal
 
 pub returns : goal.returns
 unfolding complete all_given all_used all_framed has_group has_subject said_by
-returns c = rw (c.all_given-given.ensures, c.partitions_used-partitions.ensures, c.groups_used-groups.ensures, c.majors_framed-framed.ensures, c.counts_of-n.ensures.0)
+returns c = rw (c.all_given-given.ensures, c.partitions_used-partitions.ensures, c.groups_used-groups.ensures, c.majors_framed-framed.ensures, c.counts_of-n.ensures)

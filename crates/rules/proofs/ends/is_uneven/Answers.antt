@@ -10,4 +10,4 @@ returns-in_default c = (inner_passes _ 0 _ (opened c.in_default.in_default-own.k
 
 pub returns : goal.returns
 unfolding uneven even said_by
-returns c = rw (c.in-End.is, c.majors_even.ensures, c.counts_of-n.ensures.0)
+returns c = rw (c.in-End.is, c.majors_even.ensures, c.counts_of-n.ensures)

@@ -5,4 +5,4 @@ use Rattle.rules.proofs.misplaced.cpu_of_subject.Goals as goal
 
 pub returns : goal.returns
 unfolding cpu_of_subject said_by
-returns c = rw (c.cpu_of.ensures.0, c.partition_of-partition.ensures.0, c.group_of-group.ensures.0)
+returns c = rw (c.cpu_of.ensures, c.partition_of-partition.ensures, c.group_of-group.ensures)

@@ -5,4 +5,4 @@ use Rattle.rules.proofs.misplaced.frame_misplaced.Goals as goal
 
 pub returns : goal.returns
 unfolding frame_misplaced said_by
-returns c = rw (c.partition_given-given.ensures.0, c.cpu_of-cpu.ensures.0)
+returns c = rw (c.partition_given-given.ensures, c.cpu_of-cpu.ensures)

@@ -13,11 +13,11 @@ returns-in-Partition c = rw c.in-Partition.is
 
 pub returns-in-Group : goal.returns-in-Group
 unfolding misplaced said_by
-returns-in-Group c = rw (c.in-Group.is, c.partition_given.ensures.0)
+returns-in-Group c = rw (c.in-Group.is, c.partition_given.ensures)
 
 pub returns-in-Subject : goal.returns-in-Subject
 unfolding misplaced said_by
-returns-in-Subject c = rw (c.in-Subject.is, c.group_given.ensures.0)
+returns-in-Subject c = rw (c.in-Subject.is, c.group_given.ensures)
 
 pub returns-in-Frame : goal.returns-in-Frame
 unfolding misplaced
@@ -33,11 +33,11 @@ returns-in-Trap c = rw c.in-Trap.is c.trap_misplaced.ensures
 
 pub returns-in-Target : goal.returns-in-Target
 unfolding misplaced said_by
-returns-in-Target c = rw (c.in-Target.is, c.subject_given.ensures.0)
+returns-in-Target c = rw (c.in-Target.is, c.subject_given.ensures)
 
 pub returns-in-Route : goal.returns-in-Route
 unfolding misplaced said_by
-returns-in-Route c = rw (c.in-Route.is, c.subject_given-in-Route.ensures.0)
+returns-in-Route c = rw (c.in-Route.is, c.subject_given-in-Route.ensures)
 
 pub returns-in-End : goal.returns-in-End
 unfolding misplaced

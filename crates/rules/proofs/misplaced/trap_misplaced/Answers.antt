@@ -5,4 +5,4 @@ use Rattle.rules.proofs.misplaced.trap_misplaced.Goals as goal
 
 pub returns : goal.returns
 unfolding trap_misplaced said_by
-returns c = rw (c.subject_given-given.ensures.0, c.default_of-event.ensures.0)
+returns c = rw (c.subject_given-given.ensures, c.default_of-event.ensures)

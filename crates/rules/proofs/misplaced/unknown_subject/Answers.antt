@@ -5,4 +5,4 @@ use Rattle.rules.proofs.misplaced.unknown_subject.Goals as goal
 
 pub returns : goal.returns
 unfolding unknown_subject said_by
-returns c = rw (c.subject_given-source.ensures.0, c.has_target.ensures, c.subject_given-target.ensures.0)
+returns c = rw (c.subject_given-source.ensures, c.has_target.ensures, c.subject_given-target.ensures)

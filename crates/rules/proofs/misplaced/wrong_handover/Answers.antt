@@ -5,4 +5,4 @@ use Rattle.rules.proofs.misplaced.wrong_handover.Goals as goal
 
 pub returns : goal.returns
 unfolding wrong_handover said_by
-returns c = rw (c.has_target.ensures, c.group_of-other.ensures.0, c.group_of-group.ensures.0)
+returns c = rw (c.has_target.ensures, c.group_of-other.ensures, c.group_of-group.ensures)

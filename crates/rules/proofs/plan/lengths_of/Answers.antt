@@ -4,4 +4,4 @@ use Rattle.rules.proofs.plan.lengths_of.Goals as goal
 
 pub returns : goal.returns
 unfolding lengths_at
-returns c = rw (c.length_at-a.ensures.0, c.length_at-b.ensures.0, c.length_at-c.ensures.0, c.length_at-d.ensures.0, c.length_at-e.ensures.0, c.length_at-f.ensures.0, c.length_at-g.ensures.0, c.length_at-h.ensures.0)
+returns c = rw (c.length_at-a.ensures, c.length_at-b.ensures, c.length_at-c.ensures, c.length_at-d.ensures, c.length_at-e.ensures, c.length_at-f.ensures, c.length_at-g.ensures, c.length_at-h.ensures)

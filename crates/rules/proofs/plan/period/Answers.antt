@@ -4,4 +4,4 @@ use Rattle.rules.proofs.plan.period.Goals as goal
 
 pub returns : goal.returns
 unfolding period_by
-returns c = rw (c.plan_length.ensures.0, c.lengths_of-lengths.ensures)
+returns c = rw (c.plan_length.ensures, c.lengths_of-lengths.ensures)

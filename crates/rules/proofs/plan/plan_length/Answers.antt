@@ -25,4 +25,4 @@ loop-i-preserved c = (
 )
 
 pub returns : goal.returns
-returns c = (total_end c.args.lengths.now c.loop-i.i c.loop-i.sum (omega arith) c.loop-i.invariant.1.0, refl)
+returns c = total_end c.args.lengths.now c.loop-i.i c.loop-i.sum (omega arith) c.loop-i.invariant.1.0

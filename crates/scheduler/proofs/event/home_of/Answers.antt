@@ -2,4 +2,4 @@
 use Rattle.scheduler.proofs.event.home_of.Goals as goal
 
 pub returns : goal.returns
-returns c = rw (← c.group_of-group.ensures.0, ← c.partition_of-partition.ensures.0) c.cpu_of.ensures.0
+returns c = rw (← c.group_of-group.ensures, ← c.partition_of-partition.ensures) c.cpu_of.ensures

@@ -6,7 +6,7 @@ use Rattle.scheduler.proofs.event.hypercall_event.Goals as goal
 
 pub returns-then-event-lt-EVENTS : goal.returns-then-event-lt-EVENTS
 unfolding hypercall_event
-returns-then-event-lt-EVENTS c = rw (lt-ltb _ _ c.if-event-lt-EVENTS.true) c.source_event.ensures.0
+returns-then-event-lt-EVENTS c = rw (lt-ltb _ _ c.if-event-lt-EVENTS.true) c.source_event.ensures
 
 pub returns : goal.returns
 unfolding hypercall_event no_event

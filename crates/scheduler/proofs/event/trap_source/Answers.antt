@@ -4,4 +4,4 @@ use Rattle.scheduler.proofs.event.trap_source.Goals as goal
 
 pub returns : goal.returns
 unfolding trap_source
-returns c = rw (← c.trap_event-event.ensures.0) c.source_event.ensures.0
+returns c = rw (← c.trap_event-event.ensures) c.source_event.ensures

@@ -5,8 +5,8 @@ use Rattle.scheduler.proofs.stepping.serve.Goals as goal
 
 pub returns-in-IllFormed : goal.returns-in-IllFormed
 unfolding served
-returns-in-IllFormed c = (rw c.in-IllFormed.is c.refused.ensures, refl)
+returns-in-IllFormed c = rw c.in-IllFormed.is c.refused.ensures
 
 pub returns-in-Call : goal.returns-in-Call
 unfolding served
-returns-in-Call c = (rw c.in-Call.is c.answered.ensures, refl)
+returns-in-Call c = rw c.in-Call.is c.answered.ensures

@@ -5,8 +5,8 @@ use Rattle.clock.proofs.time.Clock.cpu_in_range.Goals as goal
 
 pub returns-then-count-c : goal.returns-then-count-c
 unfolding cpu_in_range
-returns-then-count-c c = rw (← c.cpu_at-c.ensures, ← c.frame_count-count.ensures.0, le-ltb _ _ c.if-count-c.true)
+returns-then-count-c c = rw (← c.cpu_at-c.ensures, ← c.frame_count-count.ensures, le-ltb _ _ c.if-count-c.true)
 
 pub returns : goal.returns
 unfolding cpu_in_range ticks_left
-returns c = rw (← c.cpu_at-c.ensures, ← c.frame_count-count.ensures.0, ← c.current_frame-frame.ensures.0, lt-ltb _ _ c.if-count-c.false) (rw c.cpu_at-c.ensures)
+returns c = rw (← c.cpu_at-c.ensures, ← c.frame_count-count.ensures, ← c.current_frame-frame.ensures, lt-ltb _ _ c.if-count-c.false) (rw c.cpu_at-c.ensures)

@@ -5,4 +5,4 @@ use Rattle.clock.proofs.time.Clock.current_frame.Goals as goal
 
 pub returns : goal.returns
 unfolding current_frame
-returns c = (rw (← c.cpu_at-c.ensures) c.frame_at.ensures.0, refl)
+returns c = rw (← c.cpu_at-c.ensures) c.frame_at.ensures

@@ -5,4 +5,4 @@ use Rattle.clock.proofs.time.Clock.current_partition.Goals as goal
 
 pub returns : goal.returns
 unfolding current_partition
-returns c = (ap (λ f. f.partition) c.current_frame-frame.ensures.0, refl)
+returns c = ap (λ f. f.partition) c.current_frame-frame.ensures

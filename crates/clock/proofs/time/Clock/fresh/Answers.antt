@@ -5,4 +5,4 @@ use Rattle.clock.proofs.time.Clock.fresh.Goals as goal
 
 pub returns : goal.returns
 unfolding fresh_clock
-returns c = (cc, refl)
+returns c = cc

@@ -9,4 +9,4 @@ returns-in-Nothing c = rw (← c.highest-highest.ensures, c.in-Nothing.is)
 
 pub returns-in-At : goal.returns-in-At
 unfolding event_taken event_taken_at
-returns-in-At c = c.reacted.ensures ∙ rw (← c.highest-highest.ensures, c.in-At.is, c.target_event-action.ensures.0, c.clear_event-cleared.ensures)
+returns-in-At c = c.reacted.ensures ∙ rw (← c.highest-highest.ensures, c.in-At.is, c.target_event-action.ensures, c.clear_event-cleared.ensures)

@@ -7,7 +7,7 @@ pub returns-then-left-eq0 : goal.returns-then-left-eq0
 returns-then-left-eq0 t c = sym (next_none _ _ _ _ _ c.if-left-eq0.true)
 
 pub returns-then-may_run : goal.returns-then-may_run
-returns-then-may_run t c = rw (next_more _ c.args.self _ _ _ _ c.counts_of-counts.result c.if-left-eq0.false c.counts_of-counts.ensures.0 c.after-next.ensures) (rw (sym c.may_run.ensures ∙ c.if-may_run.true))
+returns-then-may_run t c = rw (next_more _ c.args.self _ _ _ _ c.counts_of-counts.result c.if-left-eq0.false c.counts_of-counts.ensures c.after-next.ensures) (rw (sym c.may_run.ensures ∙ c.if-may_run.true))
 
 pub returns : goal.returns
-returns t c = rw (next_more _ c.args.self _ _ _ _ c.counts_of-counts.result c.if-left-eq0.false c.counts_of-counts.ensures.0 c.after-next.ensures) (rw (sym c.may_run.ensures ∙ c.if-may_run.false) c.next_awake.ensures)
+returns t c = rw (next_more _ c.args.self _ _ _ _ c.counts_of-counts.result c.if-left-eq0.false c.counts_of-counts.ensures c.after-next.ensures) (rw (sym c.may_run.ensures ∙ c.if-may_run.false) c.next_awake.ensures)

@@ -8,15 +8,15 @@ returns-in-Nothing c = rw c.in-Nothing.is
 
 pub returns-in-Sleep : goal.returns-in-Sleep
 unfolding acted
-returns-in-Sleep c = rw (c.in-Sleep.is, ← c.group_of-group.ensures.0) c.slept.ensures
+returns-in-Sleep c = rw (c.in-Sleep.is, ← c.group_of-group.ensures) c.slept.ensures
 
 pub returns-in-Yield : goal.returns-in-Yield
 unfolding acted
-returns-in-Yield c = rw (c.in-Yield.is, ← c.group_of-group.ensures.0, ← c.partition_of-partition.ensures.0) c.yielded.ensures
+returns-in-Yield c = rw (c.in-Yield.is, ← c.group_of-group.ensures, ← c.partition_of-partition.ensures) c.yielded.ensures
 
 pub returns-in-Handover : goal.returns-in-Handover
 unfolding acted
-returns-in-Handover c = rw (c.in-Handover.is, ← c.group_of-group.ensures.0) c.handed_over.ensures
+returns-in-Handover c = rw (c.in-Handover.is, ← c.group_of-group.ensures) c.handed_over.ensures
 
 pub returns-in-Unmask : goal.returns-in-Unmask
 unfolding acted

@@ -5,4 +5,4 @@ use Rattle.programs.proofs.whole.Programs.entering.Goals as goal
 
 pub returns : goal.returns
 unfolding entering
-returns c = (rw (← c.subject_at-kept.ensures, ← c.event_taken-taken.ensures, ← c.vector_taken-injection.ensures, ← c.with_subject-programs.ensures), refl)
+returns c = rw (← c.subject_at-kept.ensures, ← c.event_taken-taken.ensures, ← c.vector_taken-injection.ensures, ← c.with_subject-programs.ensures)

@@ -4,4 +4,4 @@ use Rattle.programs.proofs.whole.Programs.group_in_range.Goals as goal
 
 pub returns : goal.returns
 unfolding group_in_range
-returns c = rw (← c.active_group-group.ensures, ← c.counts_of-counts.ensures.0, ← c.partition_of-home.ensures.0)
+returns c = rw (← c.active_group-group.ensures, ← c.counts_of-counts.ensures, ← c.partition_of-home.ensures)

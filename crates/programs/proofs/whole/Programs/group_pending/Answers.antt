@@ -10,11 +10,11 @@ loop-subject-init c = (omega arith, any_none _)
 
 pub returns-then-pending_in : goal.returns-then-pending_in
 unfolding group_pending
-returns-then-pending_in c = rw (← c.counts_of-counts.ensures.0) (sym (any_stop _ _ c.loop-subject.subject (omega arith) (sym c.pending_in.ensures ∙ c.if-pending_in.true)))
+returns-then-pending_in c = rw (← c.counts_of-counts.ensures) (sym (any_stop _ _ c.loop-subject.subject (omega arith) (sym c.pending_in.ensures ∙ c.if-pending_in.true)))
 
 pub loop-subject-preserved : goal.loop-subject-preserved
 loop-subject-preserved c = (omega arith, any_more _ _ c.loop-subject.invariant.1 (sym c.pending_in.ensures ∙ c.if-pending_in.false))
 
 pub returns : goal.returns
 unfolding group_pending
-returns c = rw (← c.counts_of-counts.ensures.0) (any_end _ _ c.loop-subject.subject (omega arith) c.loop-subject.invariant.1)
+returns c = rw (← c.counts_of-counts.ensures) (any_end _ _ c.loop-subject.subject (omega arith) c.loop-subject.invariant.1)

@@ -5,4 +5,4 @@ use Rattle.programs.proofs.whole.Programs.handled.Goals as goal
 
 pub returns : goal.returns
 unfolding handled
-returns c = (rw (← c.acted-after.ensures) c.signalled.ensures.0, refl)
+returns c = rw (← c.acted-after.ensures) c.signalled.ensures

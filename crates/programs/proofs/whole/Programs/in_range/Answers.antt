@@ -5,12 +5,12 @@ use Rattle.programs.proofs.whole.Programs.in_range.Goals as goal
 
 pub returns-then-not-groups_in_range_below : goal.returns-then-not-groups_in_range_below
 unfolding programs_in_range
-returns-then-not-groups_in_range_below c = (rw (← c.counts_of-counts.ensures.0, sym c.groups_in_range_below.ensures ∙ c.if-not-groups_in_range_below.true), refl)
+returns-then-not-groups_in_range_below c = rw (← c.counts_of-counts.ensures, sym c.groups_in_range_below.ensures ∙ c.if-not-groups_in_range_below.true)
 
 pub returns-then-not-subjects_in_range_below : goal.returns-then-not-subjects_in_range_below
 unfolding programs_in_range
-returns-then-not-subjects_in_range_below c = (rw (← c.counts_of-counts.ensures.0, sym c.groups_in_range_below.ensures ∙ c.if-not-groups_in_range_below.false, sym c.subjects_in_range_below.ensures ∙ c.if-not-subjects_in_range_below.true), refl)
+returns-then-not-subjects_in_range_below c = rw (← c.counts_of-counts.ensures, sym c.groups_in_range_below.ensures ∙ c.if-not-groups_in_range_below.false, sym c.subjects_in_range_below.ensures ∙ c.if-not-subjects_in_range_below.true)
 
 pub returns : goal.returns
 unfolding programs_in_range masks_in_range
-returns c = (rw (← c.counts_of-counts.ensures.0, sym c.groups_in_range_below.ensures ∙ c.if-not-groups_in_range_below.false, sym c.subjects_in_range_below.ensures ∙ c.if-not-subjects_in_range_below.false), refl)
+returns c = rw (← c.counts_of-counts.ensures, sym c.groups_in_range_below.ensures ∙ c.if-not-groups_in_range_below.false, sym c.subjects_in_range_below.ensures ∙ c.if-not-subjects_in_range_below.false)

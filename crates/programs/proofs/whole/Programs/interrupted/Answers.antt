@@ -5,4 +5,4 @@ use Rattle.programs.proofs.whole.Programs.interrupted.Goals as goal
 
 pub returns : goal.returns
 unfolding interrupted
-returns c = (rw (← c.route_of-route.ensures.0) c.routed.ensures, refl)
+returns c = rw (← c.route_of-route.ensures) c.routed.ensures

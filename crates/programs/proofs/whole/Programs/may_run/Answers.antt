@@ -4,4 +4,4 @@ use Rattle.programs.proofs.whole.Programs.may_run.Goals as goal
 
 pub returns : goal.returns
 unfolding may_run
-returns c = rw (← c.partition_of-home.ensures.0, ← c.group_at-kept.ensures)
+returns c = rw (← c.partition_of-home.ensures, ← c.group_at-kept.ensures)

@@ -4,4 +4,4 @@ use Rattle.programs.proofs.whole.Programs.next_of.Goals as goal
 
 pub returns : goal.returns
 unfolding next_of
-returns c = rw (← c.active_group-active.ensures, ← c.counts_of-counts.ensures.0) c.next_awake.ensures
+returns c = rw (← c.active_group-active.ensures, ← c.counts_of-counts.ensures) c.next_awake.ensures

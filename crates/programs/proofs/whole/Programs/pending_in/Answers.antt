@@ -4,4 +4,4 @@ use Rattle.programs.proofs.whole.Programs.pending_in.Goals as goal
 
 pub returns : goal.returns
 unfolding pending_in
-returns c = rw (← c.group_of-home.ensures.0, ← c.subject_at-kept.ensures, ← c.has_pending-pending.ensures)
+returns c = rw (← c.group_of-home.ensures, ← c.subject_at-kept.ensures, ← c.has_pending-pending.ensures)

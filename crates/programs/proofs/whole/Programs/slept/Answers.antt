@@ -5,7 +5,7 @@ use Rattle.programs.proofs.whole.Programs.slept.Goals as goal
 
 pub returns-then-group_pending : goal.returns-then-group_pending
 unfolding slept
-returns-then-group_pending c = rw (sym c.group_pending.ensures ∙ c.if-group_pending.true, ← c.partition_of-partition.ensures.0) c.yielded.ensures
+returns-then-group_pending c = rw (sym c.group_pending.ensures ∙ c.if-group_pending.true, ← c.partition_of-partition.ensures) c.yielded.ensures
 
 pub returns : goal.returns
 unfolding slept

@@ -6,4 +6,4 @@ use Rattle.programs.proofs.whole.Programs.subject_in_range.Goals as goal
 
 pub returns : goal.returns
 unfolding subject_in_range active_subject
-returns c = rw (← ap (λ g. g.active) c.group_at-kept.ensures, ← c.counts_of-counts.ensures.0, ← c.group_of-home.ensures.0)
+returns c = rw (← ap (λ g. g.active) c.group_at-kept.ensures, ← c.counts_of-counts.ensures, ← c.group_of-home.ensures)

@@ -4,4 +4,4 @@ use Rattle.programs.proofs.whole.Programs.woke.Goals as goal
 
 pub returns : goal.returns
 unfolding woke
-returns c = rw (← c.group_of-group.ensures.0, ← c.group_at-kept.ensures, ← c.wake-awake.ensures) c.with_group.ensures
+returns c = rw (← c.group_of-group.ensures, ← c.group_at-kept.ensures, ← c.wake-awake.ensures) c.with_group.ensures

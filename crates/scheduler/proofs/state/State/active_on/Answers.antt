@@ -6,4 +6,4 @@ use Rattle.scheduler.proofs.state.State.active_on.Goals as goal
 
 pub returns : goal.returns
 unfolding active_on active_subject
-returns c = rw (← c.current_partition-partition.ensures.0, ← c.active_group-group.ensures, ← ap (λ g. g.active) c.group_at-kept.ensures)
+returns c = rw (← c.current_partition-partition.ensures, ← c.active_group-group.ensures, ← ap (λ g. g.active) c.group_at-kept.ensures)

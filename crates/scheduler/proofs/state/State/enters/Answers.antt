@@ -5,4 +5,4 @@ use Rattle.scheduler.proofs.state.State.enters.Goals as goal
 
 pub returns : goal.returns
 unfolding enters
-returns c = simp (sym c.ticks_left-left.ensures, sym c.entering-entering.ensures.0, sym c.injected_of-injected.ensures, sym c.with_programs.ensures, sym c.with_entered-state.ensures)
+returns c = simp (sym c.ticks_left-left.ensures, sym c.entering-entering.ensures, sym c.injected_of-injected.ensures, sym c.with_programs.ensures, sym c.with_entered-state.ensures)

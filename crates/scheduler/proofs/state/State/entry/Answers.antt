@@ -9,4 +9,4 @@ returns-then-waiting c = rw (sym c.waiting.ensures ∙ c.if-waiting.true, ← c.
 
 pub returns : goal.returns
 unfolding entry_of
-returns c = rw (sym c.waiting.ensures ∙ c.if-waiting.false, ← c.current_partition-partition.ensures.0, ← c.chosen_group-found.ensures.0) c.admitted.ensures
+returns c = rw (sym c.waiting.ensures ∙ c.if-waiting.false, ← c.current_partition-partition.ensures, ← c.chosen_group-found.ensures) c.admitted.ensures

@@ -8,4 +8,4 @@ returns-in-Stops c = rw (← c.stopping_of-stopping.ensures, c.in-Stops.is) c.st
 
 pub returns-in-Goes : goal.returns-in-Goes
 unfolding event_handled event_then
-returns-in-Goes c = rw (← c.stopping_of-stopping.ensures, c.in-Goes.is, ← c.kicked_by-kick.ensures, ← c.handled-after.ensures.0, ← c.with_programs.ensures) c.entry.ensures
+returns-in-Goes c = rw (← c.stopping_of-stopping.ensures, c.in-Goes.is, ← c.kicked_by-kick.ensures, ← c.handled-after.ensures, ← c.with_programs.ensures) c.entry.ensures

@@ -5,4 +5,4 @@ use Rattle.scheduler.proofs.state.State.fresh.Goals as goal
 
 pub returns : goal.returns
 unfolding fresh_state
-returns c = (rw (← c.fresh-clock.ensures.0, ← c.fresh-programs.ensures.0), refl)
+returns c = rw (← c.fresh-clock.ensures, ← c.fresh-programs.ensures)

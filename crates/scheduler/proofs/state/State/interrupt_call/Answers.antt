@@ -4,4 +4,4 @@ use Rattle.scheduler.proofs.state.State.interrupt_call.Goals as goal
 
 pub returns : goal.returns
 unfolding interrupt_call
-returns c = rw (← c.flag_stored-stored.ensures, ← c.interrupted-after.ensures.0, ← c.with_programs.ensures, ← c.plain-notes.ensures) c.entry.ensures
+returns c = rw (← c.flag_stored-stored.ensures, ← c.interrupted-after.ensures, ← c.with_programs.ensures, ← c.plain-notes.ensures) c.entry.ensures
