@@ -1,5 +1,6 @@
 -- The laws of this crate, together: what `lawful` promises. An accepted text's records, latest first, are lines each accepted when it was
 -- read, and the policy's table is theirs; so what the rules ask of lines holds of the table.
+use Rattle.std.specs.Prelude.{Ok}
 use Prim.Native.Nat.{ℕ, ◌≤◌, ◌<◌}
 use mathlib.Core.Bool.{true}
 use mathlib.Core.List.{List, [], ◌∷◌}
@@ -13,7 +14,6 @@ use Rattle.records.specs.Kinds.{kind_of}
 use Rattle.rows.specs.Lines.{table_of, in_order}
 use Rattle.rows.specs.Lookups.{counts_of, cpu_of, partition_of, group_of, default_of}
 use Rattle.rows.proofs.LineTableLaws.{get_row}
-use Rattle.rules.specs.declared.refusal.Verdict.TheVariants.{Accepted}
 use Rattle.rules.specs.Plan.{period_by}
 use Rattle.rules.specs.Said.{said_in, last_kind}
 use Rattle.rules.specs.Tables.{said_by}
@@ -52,7 +52,7 @@ means_its_text text p q =
 
 -- ---- what it has
 
-module _ (e : List Record) (count : ℕ) (f : Fair e) (v : verdict e (End count) ≡ Accepted) where
+module _ (e : List Record) (count : ℕ) (f : Fair e) (v : verdict e (End count) ≡ Ok tt) where
   t : Means e
   t = (meaning.laws).means e f
 

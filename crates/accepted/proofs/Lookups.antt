@@ -1,4 +1,5 @@
 -- What the table of accepted lines says of source events, traps, target events and routes, and the rules that the line behind it has met.
+use Rattle.std.specs.Prelude.{Option, Some, None}
 use Prim.Native.Nat.{ℕ, ◌≤◌, ◌<◌}
 use mathlib.Core.Bool.{Bool, true, false, ◌&&◌, ◌||◌}
 use mathlib.Core.List.{List}
@@ -18,13 +19,10 @@ use Rattle.rules.specs.Rules.{none, in_range, trap_in_range, target_in_range, ro
 use Rattle.meaning.specs.declared.answer.HostVector.{HostVector}
 use Rattle.meaning.specs.declared.answer.SubjectVector.{SubjectVector}
 use Rattle.meaning.specs.declared.answer.IrqLine.{IrqLine}
-use Rattle.meaning.specs.declared.answer.Masking.{Masking}
 use Rattle.meaning.specs.declared.answer.Route as routing
-use Rattle.meaning.specs.declared.answer.Route.TheVariants as route
 use Rattle.meaning.specs.declared.answer.Action.{Action}
 use Rattle.meaning.specs.declared.answer.Action.TheVariants as action
 use Rattle.meaning.specs.declared.answer.Signal.{Signal}
-use Rattle.meaning.specs.declared.answer.Signal.TheVariants as signal
 use Rattle.meaning.specs.declared.answer.SourceEvent.{SourceEvent}
 use Rattle.meaning.specs.declared.answer.TargetAction.TheVariants as target
 use Rattle.meaning.specs.Answers.{masking_from, signal_from, route_from, source_from, no_event}
@@ -36,14 +34,22 @@ use Rattle.accepted.proofs.Held.{held, or_none, EventHeld, event_held}
 
 -- ---- what is said, taken back to the line's fields
 
+unfoldable signal_kicks : Option Signal → Bool
+signal_kicks None = false
+signal_kicks (Some signal) = signal.kick
+
+unfoldable route_line : Option routing.Route → Option IrqLine
+route_line None = None
+route_line (Some route) = route.line
+
 -- a target event has a target subject
-signal_of : (subject event kick n w : ℕ) (k : Bool) → signal_from subject event kick ≡ signal.To n w k
+signal_of : (subject event kick n w : ℕ) (k : Bool) → signal_from subject event kick ≡ Some (record { subject = n; event = w; kick = k })
     → (event ≡ none → ⊥) × ((subject ≡ n) × ((event ≡ w) × (eqb kick 1 ≡ k)))
-unfolding signal_from signal_subject signal_event
+unfolding signal_from signal_subject signal_event signal_kicks
 signal_of subject event kick n w k =
-    by_cond (λ (x : Signal). x ≡ signal.To n w k → (event ≡ none → ⊥) × ((subject ≡ n) × ((event ≡ w) × (eqb kick 1 ≡ k)))) (eqb event none) _ _
+    by_cond (λ (x : Option Signal). x ≡ Some (record { subject = n; event = w; kick = k }) → (event ≡ none → ⊥) × ((subject ≡ n) × ((event ≡ w) × (eqb kick 1 ≡ k)))) (eqb event none) _ _
     (λ t q. let z : ◌≡◌ {A = ℕ} 0 1 = cc in absurd (omega arith))
-    (λ t q. let z : eqb kick 1 ≡ k = cc in (eqb-false event none t, (ap signal_subject q, (ap signal_event q, z))))
+    (λ t q. (eqb-false event none t, (ap signal_subject q, (ap signal_event q, ap signal_kicks q))))
 
 or-false : (a : Bool) → (a || false) ≡ true → a ≡ true
 or-false true t = refl
@@ -82,7 +88,7 @@ module _ (e : List Record) (f : Fair e) (t : Means e) where
   unfolding no_event
   acting s event a d q z = d (sym q ∙ ap (λ (x : SourceEvent). x.action) z)
 
-  signalling : (s event : ℕ) (a : Signal) → (a ≡ signal.Nothing → ⊥) → (source_event (table_of e) s event).signal ≡ a → source_event (table_of e) s event ≡ no_event → ⊥
+  signalling : (s event : ℕ) (a : Option Signal) → (a ≡ None → ⊥) → (source_event (table_of e) s event).signal ≡ a → source_event (table_of e) s event ≡ no_event → ⊥
   unfolding no_event
   signalling s event a d q z = d (sym q ∙ ap (λ (x : SourceEvent). x.signal) z)
 
@@ -112,11 +118,11 @@ module _ (e : List Record) (f : Fair e) (t : Means e) where
       apart : action.Unmask l ≡ action.Nothing → ⊥
       apart z = let y : ◌≡◌ {A = ℕ} 0 1 = cc in omega arith
 
-  pub signalled : (s event n w : ℕ) (k : Bool) → (source_event (table_of e) s event).signal ≡ signal.To n w k
+  pub signalled : (s event n w : ℕ) (k : Bool) → (source_event (table_of e) s event).signal ≡ Some (record { subject = n; event = w; kick = k })
       → (n < (said_in e).counts.subjects) × ((s < (said_in e).counts.subjects) × ((w ≤ 31) × (k ≡ true → cpu_of_subject (said_in e) n ≡ cpu_of_subject (said_in e) s → ⊥)))
   unfolding source_from event_back
   signalled s event n w k q =
-      let b = behind s event (signalling s event (signal.To n w k) (λ z. apart z) q) in
+      let b = behind s event (signalling s event (Some (record { subject = n; event = w; kick = k })) (λ z. apart z) q) in
       let g = signal_of b.line.target b.line.target_event b.line.kick n w k (ap (λ (x : SourceEvent). x.signal) b.says ∙ q) in
       let u : b.line.subject ≡ s = ap (λ (v : EventLine). v.subject) b.back in
       let l = b.held.target (b.held.whole g.0) in
@@ -125,7 +131,7 @@ module _ (e : List Record) (f : Fair e) (t : Means e) where
       = λ z. b.held.kick (eqb-true b.line.kick 1 (g.1.1.1 ∙ z)) in
       (rw g.1.0 at l, (rw u at b.held.subject, (rw g.1.1.0 at h, rw g.1.0 at (rw u at c))))
     where
-      apart : signal.To n w k ≡ signal.Nothing → ⊥
+      apart : ◌≡◌ {A = Option Signal} (Some (record { subject = n; event = w; kick = k })) None → ⊥
       apart z = let y : ◌≡◌ {A = ℕ} 0 1 = cc in omega arith
 
   -- ---- traps, target events, routes
@@ -161,17 +167,17 @@ module _ (e : List Record) (f : Fair e) (t : Means e) where
       apart : target.Inject v ≡ target.Nothing → ⊥
       apart z = let y : ◌≡◌ {A = ℕ} 0 1 = cc in omega arith
 
-  pub routed : (host : HostVector) (s : ℕ) (v : SubjectVector) (l : Masking) → route_of (table_of e) host ≡ route.To s v l
+  pub routed : (host : HostVector) (s : ℕ) (v : SubjectVector) (l : Option IrqLine) → route_of (table_of e) host ≡ Some (record { subject = s; vector = v; line = l })
       → (s < (said_in e).counts.subjects) × ((32 ≤ v.0) × ((v.0 ≤ 255) × MaskingFits l))
-  unfolding kind_of in_range route_in_range routable route_from route_back
+  unfolding kind_of in_range route_in_range routable route_from route_back route_line
   routed host s v l q =
       let b = t.routes.by host (λ z. apart (sym q ∙ z)) in
       let w = b.0.said in
-      let k : route_from w ≡ route.To s v l = b.1 ∙ q in
+      let k : ◌≡◌ {A = Option routing.Route} (Some (route_from w)) (Some (record { subject = s; vector = v; line = l })) = b.1 ∙ q in
       let h = held e (Route w) f b.0.among (omega arith) in
-      let x : w.subject ≡ s = ap (λ (y : routing.Route). (route_back host y).subject) k in
-      let z : w.vector ≡ v.0 = ap (λ (y : routing.Route). (route_back host y).vector) k in
-      let m : masking_from w.irq ≡ l = cc in
+      let x : w.subject ≡ s = ap (λ (y : Option routing.Route). (route_back host y).subject) k in
+      let z : w.vector ≡ v.0 = ap (λ (y : Option routing.Route). (route_back host y).vector) k in
+      let m : masking_from w.irq ≡ l = ap route_line k in
       let a = both (routable w.host) _ h.range in
       let c = both (ltb w.subject _) _ a.1 in
       let d = both (leb 32 w.vector && leb w.vector 255) _ c.1 in
@@ -180,5 +186,5 @@ module _ (e : List Record) (f : Fair e) (t : Means e) where
         (rw z at (leb-true 32 w.vector g.0), (rw z at (leb-true w.vector 255 g.1), subst MaskingFits m (masking_fits w.irq d.1))),
       )
     where
-      apart : route.To s v l ≡ route.Nowhere → ⊥
+      apart : ◌≡◌ {A = Option routing.Route} (Some (record { subject = s; vector = v; line = l })) None → ⊥
       apart z = let y : ◌≡◌ {A = ℕ} 0 1 = cc in omega arith

@@ -1,5 +1,6 @@
 -- Partitions, groups and subjects of an accepted policy: each is given and used, and what its line says is in range. By the rules at 0A,
 -- and by the ranges of the line when it was read.
+use Rattle.std.specs.Prelude.{Ok}
 use Prim.Native.Nat.{ℕ, zero, suc, ◌≤◌, ◌<◌}
 use mathlib.Core.Bool.{Bool, true, false, cond, ◌&&◌, ◌||◌, true≢false}
 use mathlib.Core.List.{List, [], ◌∷◌}
@@ -14,7 +15,6 @@ use Rattle.records.specs.declared.kind.Counts.{Counts}
 use Rattle.records.specs.declared.kind.Record.{Record}
 use Rattle.records.specs.declared.kind.Record.TheVariants.{Header, Partition, Group, Subject, Frame, Event, Trap, Target, Route, End}
 use Rattle.records.specs.Kinds.{kind_of, bytes_of, header_in}
-use Rattle.rules.specs.declared.refusal.Verdict.TheVariants.{Accepted}
 use Rattle.rules.specs.Said.{said_in, last_kind, line_with, header_line, some}
 use Rattle.rules.specs.Rules.{counts_in_range, all_below, any_below, all_given, has_group, has_subject, all_used, all_framed, complete, incomplete, even, uneven, verdict, wrong_kind, Fair}
 use Rattle.rules.proofs.Fine.{fine, in_header}
@@ -69,7 +69,7 @@ header_range h t =
     range n most q = let r = both (leb 1 n) (leb n most) q in (leb-true 1 n r.0, leb-true n most r.1)
 
 -- a line that is no header stands behind another
-pub behind_one : (e : List Record) (r : Record) → verdict e r ≡ Accepted → (kind_of r ≡ 1 → ⊥) → last_kind e ≡ 0 → ⊥
+pub behind_one : (e : List Record) (r : Record) → verdict e r ≡ Ok tt → (kind_of r ≡ 1 → ⊥) → last_kind e ≡ 0 → ⊥
 unfolding last_kind wrong_kind
 behind_one [] r v k q = k (eqb-true (kind_of r) 1 (not-false (eqb (kind_of r) 1) (fine [] r v).kind))
 behind_one (last ∷ e) r v k q = kind_some last q
@@ -125,7 +125,7 @@ pub record Ended (e : List Record) : Type 0 where
   pub framed : all_framed (said_in e) ≡ true
   pub even : even (said_in e) ≡ true
 
-pub ended : (e : List Record) (count : ℕ) → verdict e (End count) ≡ Accepted → Ended e
+pub ended : (e : List Record) (count : ℕ) → verdict e (End count) ≡ Ok tt → Ended e
 unfolding incomplete complete uneven
 ended e count v =
     let a = both (eqb count (length e)) _ (not-false _ (fine e (End count) v).full) in

@@ -1,5 +1,6 @@
 -- A line among accepted lines was accepted after the lines before it, and what these said of partitions, groups and subjects is what all
 -- lines say: kinds never go down, so no later line is of a lower kind.
+use Rattle.std.specs.Prelude.{Ok}
 use Prim.Native.Nat.{ℕ, ◌≤◌, ◌<◌}
 use mathlib.Core.List.{List, [], ◌∷◌}
 use mathlib.Core.Logic.{◌⊎◌, inl, inr}
@@ -8,7 +9,6 @@ use native.Mathlib.Omega.{arith}
 use borrow.Author.Tests.{ne_eqb}
 use Rattle.records.specs.declared.kind.Record.{Record}
 use Rattle.records.specs.Kinds.{kind_of}
-use Rattle.rules.specs.declared.refusal.Verdict.TheVariants.{Accepted}
 use Rattle.rules.specs.Said.{last_kind, line_with, header_line}
 use Rattle.rules.specs.Rules.{verdict, Fair}
 use Rattle.rules.proofs.Fine.{fine}
@@ -19,7 +19,7 @@ use Rattle.meaning.specs.Means.{Has}
 pub record WhenRead (r : Record) (e : List Record) : Type 0 where
   pub before : List Record
   pub fair : Fair before
-  pub accepted : verdict before r ≡ Accepted
+  pub accepted : verdict before r ≡ Ok tt
   pub lines : (kind n : ℕ) → kind < kind_of r → line_with kind n before ≡ line_with kind n e
   pub header : (kind_of r ≡ 1 → ⊥) → header_line before ≡ header_line e
 
@@ -28,13 +28,13 @@ unfolding line_with
 line_skip kind n x e d = rw (ne_eqb (kind_of x) kind d)
 
 -- kinds never go down
-kind_above : (e : List Record) (x : Record) → verdict e x ≡ Accepted → last_kind e ≤ kind_of x
+kind_above : (e : List Record) (x : Record) → verdict e x ≡ Ok tt → last_kind e ≤ kind_of x
 unfolding last_kind
 kind_above [] x v = omega arith
 kind_above (last ∷ e) x v = (kind_may (kind_of last) (kind_of x) (kind_some last) (fine (last ∷ e) x v).kind).least
 
 -- and only the first line is a header
-no_header : (e : List Record) (x r : Record) → verdict e x ≡ Accepted → Has r e → kind_of x ≡ 1 → ⊥
+no_header : (e : List Record) (x r : Record) → verdict e x ≡ Ok tt → Has r e → kind_of x ≡ 1 → ⊥
 unfolding last_kind Has
 no_header [] x r v h q = h
 no_header (last ∷ e) x r v h q = (kind_may (kind_of last) (kind_of x) (kind_some last) (fine (last ∷ e) x v).kind).second q

@@ -1,6 +1,6 @@
 -- What the table of an accepted policy has, as the scheduler needs it: each number that a line names is there, plans have minor frames
 -- of their own CPU and one period, and targets, handovers and kicks go where document 01 lets them go. `rows` is the table.
-use Rattle.std.specs.Prelude.{ℕ, ◌≤◌, ◌<◌, Bool, true, List, ◌≡◌}
+use Rattle.std.specs.Prelude.{ℕ, ◌≤◌, ◌<◌, Bool, true, List, ◌≡◌, Option, Some, None}
 use Rattle.records.specs.declared.kind.Counts.{Counts}
 use Rattle.rows.specs.Lookups.{counts_of, cpu_of, partition_of, group_of, default_of}
 use Rattle.rules.specs.Plan.{period_by}
@@ -8,11 +8,7 @@ use Rattle.meaning.specs.declared.answer.Frame.{Frame}
 use Rattle.meaning.specs.declared.answer.HostVector.{HostVector}
 use Rattle.meaning.specs.declared.answer.SubjectVector.{SubjectVector}
 use Rattle.meaning.specs.declared.answer.IrqLine.{IrqLine}
-use Rattle.meaning.specs.declared.answer.Masking.{Masking}
-use Rattle.meaning.specs.declared.answer.Masking.TheVariants.{NoLine, Line}
-use Rattle.meaning.specs.declared.answer.Route.TheVariants as route
 use Rattle.meaning.specs.declared.answer.Action.TheVariants.{Handover, Unmask}
-use Rattle.meaning.specs.declared.answer.Signal.TheVariants as signal
 use Rattle.meaning.specs.declared.answer.TargetAction.TheVariants.{Inject}
 use Rattle.meaning.specs.Lookups.{route_of, source_event, trap_event, target_event, frame_at, frame_count}
 
@@ -32,9 +28,9 @@ pub record FrameFacts (rows : List ℕ) (cpu : ℕ) (f : Frame) : Type 0 where
   pub here : cpu_of rows f.partition ≡ cpu
 
 -- the IRQ line that is masked, if any, is 0-23
-abbrev pub MaskingFits : Masking → Type 0
-MaskingFits NoLine = Unit
-MaskingFits (Line l) = l.0 ≤ 23
+abbrev pub MaskingFits : Option IrqLine → Type 0
+MaskingFits None = Unit
+MaskingFits (Some l) = l.0 ≤ 23
 
 -- the CPU of a subject, by its group and partition
 abbrev pub cpu_of_subject : List ℕ → ℕ → ℕ
@@ -57,10 +53,10 @@ pub record Facts (rows : List ℕ) : Type 0 where
   -- source events
   pub handover : (s e t : ℕ) → (source_event rows s e).action ≡ Handover t → (t < (counts_of rows).subjects) × ((t ≡ s → ⊥) × (group_of rows t ≡ group_of rows s))
   pub unmask : (s e : ℕ) (l : IrqLine) → (source_event rows s e).action ≡ Unmask l → l.0 ≤ 23
-  pub signalled : (s e t v : ℕ) (k : Bool) → (source_event rows s e).signal ≡ signal.To t v k → (t < (counts_of rows).subjects) × (v ≤ 31)
-  pub kicked : (s e t v : ℕ) → (source_event rows s e).signal ≡ signal.To t v true → cpu_of_subject rows t ≡ cpu_of_subject rows s → ⊥
+  pub signalled : (s e t v : ℕ) (k : Bool) → (source_event rows s e).signal ≡ Some (record { subject = t; event = v; kick = k }) → (t < (counts_of rows).subjects) × (v ≤ 31)
+  pub kicked : (s e t v : ℕ) → (source_event rows s e).signal ≡ Some (record { subject = t; event = v; kick = true }) → cpu_of_subject rows t ≡ cpu_of_subject rows s → ⊥
   -- traps, target events, routes
   pub trapped : (s t : ℕ) → s < (counts_of rows).subjects → trap_event rows s t ≤ 15
   pub injected : (s e : ℕ) (v : SubjectVector) → target_event rows s e ≡ Inject v → (32 ≤ v.0) × (v.0 ≤ 255)
-  pub routed : (h : HostVector) (s : ℕ) (v : SubjectVector) (l : Masking) → route_of rows h ≡ route.To s v l
+  pub routed : (h : HostVector) (s : ℕ) (v : SubjectVector) (l : Option IrqLine) → route_of rows h ≡ Some (record { subject = s; vector = v; line = l })
       → (s < (counts_of rows).subjects) × ((32 ≤ v.0) × ((v.0 ≤ 255) × MaskingFits l))

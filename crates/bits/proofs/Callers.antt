@@ -1,6 +1,7 @@
 -- What a caller goes by, of either type: the laws of `specs/Lawful.antt` in the forms that a proof cites. Each takes the type's laws
 -- first: `mark_same one_word s v l`, `mark_same four_words s v l` (`Sets.antt`).
 -- Assumes nothing.
+use Rattle.std.specs.Prelude.{Option, Some, None}
 use mathlib.Core.Path.{◌≡◌, refl, sym, ◌∙◌}
 use mathlib.Core.Bool.{Bool, true, false, true≢false}
 use mathlib.Core.Logic.{◌⊎◌, inl, inr}
@@ -8,13 +9,11 @@ use Prim.Native.Nat.{ℕ, ◌<◌}
 use native.Mathlib.Omega.{arith}
 use native.Mathlib.Decide.{dec_lt}
 use borrow.Author.Tests.{eq-eqb, ne_eqb}
-use Rattle.bits.specs.declared.top.Highest.{Highest}
-use Rattle.bits.specs.declared.top.Highest.TheVariants.{At, Nothing}
 use Rattle.bits.specs.Members.{NoneBelow, Top}
 use Rattle.bits.specs.Lawful.{SetLaws}
 
 module _ {S : Type 0} {n : ℕ} {Fit : S → Type 0} {has : S → ℕ → Bool} {none : S}
-    {mark clear : S → ℕ → S} {empty : S → Bool} {highest : S → Highest}
+    {mark clear : S → ℕ → S} {empty : S → Bool} {highest : S → Option ℕ}
     (laws : SetLaws S n Fit has none mark clear empty highest) where
   pub mark_same : (s : S) (v : ℕ) → v < n → has (mark s v) v ≡ true
   mark_same s v l = laws.mark_has s v v l ∙ rw (eq-eqb v v refl)
@@ -32,27 +31,27 @@ module _ {S : Type 0} {n : ℕ} {Fit : S → Type 0} {has : S → ℕ → Bool} 
   pub clear_other : (s : S) (v k : ℕ) → (k ≡ v → ⊥) → has (clear s v) k ≡ has s k
   clear_other s v k d = laws.clear_has s v k ∙ rw (ne_eqb k v d)
 
-  pub top_highest : (s : S) {v : ℕ} → Top (has s) n v → highest s ≡ At v
+  pub top_highest : (s : S) {v : ℕ} → Top (has s) n v → highest s ≡ Some v
   top_highest s {v} t = (laws.highest_at s v).1 t
 
-  pub highest_top : (s : S) {v : ℕ} → highest s ≡ At v → Top (has s) n v
+  pub highest_top : (s : S) {v : ℕ} → highest s ≡ Some v → Top (has s) n v
   highest_top s {v} e = (laws.highest_at s v).0 e
 
-  pub none_highest : (s : S) → NoneBelow (has s) n → highest s ≡ Nothing
+  pub none_highest : (s : S) → NoneBelow (has s) n → highest s ≡ None
   none_highest s h = (laws.highest_nothing s).1 h
 
-  pub highest_none : (s : S) → highest s ≡ Nothing → NoneBelow (has s) n
+  pub highest_none : (s : S) → highest s ≡ None → NoneBelow (has s) n
   highest_none s e = (laws.highest_nothing s).0 e
 
   -- a set has a highest number, or none
   pub cases : (s : S) → ((v : ℕ) × Top (has s) n v) ⊎ NoneBelow (has s) n
   cases s = go (highest s) refl
     where
-      go : (h : Highest) → highest s ≡ h → ((v : ℕ) × Top (has s) n v) ⊎ NoneBelow (has s) n
-      go (At v) e = inl (v, highest_top s e)
-      go Nothing e = inr (highest_none s e)
+      go : (h : Option ℕ) → highest s ≡ h → ((v : ℕ) × Top (has s) n v) ⊎ NoneBelow (has s) n
+      go (Some v) e = inl (v, highest_top s e)
+      go None e = inr (highest_none s e)
 
-  pub empty_highest : (s : S) → empty s ≡ true → highest s ≡ Nothing
+  pub empty_highest : (s : S) → empty s ≡ true → highest s ≡ None
   empty_highest s e = none_highest s ((laws.empty_none s).0 e)
 
   pub none_empty : (s : S) → NoneBelow (has s) n → empty s ≡ true

@@ -1,14 +1,14 @@
 -- Worked examples, by computation: what the definitions say of single sets.
 -- Assumes nothing.
+use Rattle.std.specs.Prelude.{Some, None}
 use mathlib.Core.Path.{◌≡◌, refl}
 use mathlib.Core.Bool.{true, false}
-use Rattle.bits.specs.declared.top.Highest.TheVariants.{At, Nothing}
 use Rattle.bits.specs.Word.{bit_of, set_bit, clear_bit}
 use Rattle.bits.specs.Members.{has, marked, cleared, highest_below}
 use Rattle.bits.specs.Sets.{has64, none64, mark64, clear64, highest64, has256, none256, mark256, clear256, highest256}
 
 -- vector 255, the last, is the highest of three
-last_vector : highest256 (mark256 (mark256 (mark256 none256 32) 255) 64) ≡ At 255
+last_vector : highest256 (mark256 (mark256 (mark256 none256 32) 255) 64) ≡ Some 255
 unfolding highest256 mark256 none256 marked set_bit highest_below has bit_of
 last_vector = refl
 
@@ -18,16 +18,16 @@ unfolding has256 mark256 none256 marked set_bit has bit_of
 marks_33_alone = (refl, refl, refl)
 
 -- with the highest cleared, the next one is the highest; with that cleared, there is none
-next_vector : highest256 (clear256 (mark256 (mark256 none256 200) 49) 200) ≡ At 49
+next_vector : highest256 (clear256 (mark256 (mark256 none256 200) 49) 200) ≡ Some 49
 unfolding highest256 clear256 mark256 none256 marked cleared set_bit clear_bit highest_below has bit_of
 next_vector = refl
 
-no_vector : highest256 (clear256 (mark256 none256 49) 49) ≡ Nothing
+no_vector : highest256 (clear256 (mark256 none256 49) 49) ≡ None
 unfolding highest256 clear256 mark256 none256 marked cleared set_bit clear_bit highest_below has bit_of
 no_vector = refl
 
 -- event 31, the last of a subject's, is the highest of two, and event 0 is kept when it is marked
-last_event : (highest64 (mark64 (mark64 none64 0) 31) ≡ At 31) × (has64 (mark64 (mark64 none64 0) 31) 0 ≡ true)
+last_event : (highest64 (mark64 (mark64 none64 0) 31) ≡ Some 31) × (has64 (mark64 (mark64 none64 0) 31) 0 ≡ true)
 unfolding highest64 has64 mark64 none64 marked set_bit highest_below has bit_of
 last_event = (refl, refl)
 

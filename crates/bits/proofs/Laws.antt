@@ -2,6 +2,7 @@
 -- Numbers k and v are at one bit of one word only where k is v, so a word replaced, all its bits but v's kept, keeps each number but v.
 -- A highest number is found by a walk down, so what the walk finds is highest, and it finds nothing where nothing is.
 -- Assumes nothing.
+use Rattle.std.specs.Prelude.{Option, Some, None}
 use mathlib.Core.Path.{◌≡◌, refl, sym, ap, ◌∙◌}
 use mathlib.Core.Bool.{Bool, true, false, cond, not, ◌&&◌, ◌||◌, true≢false}
 use mathlib.Core.List.{List}
@@ -13,8 +14,6 @@ use lib.Dec.{eqb, lit<}
 use lib.ListN.{length, get_or, set, length-set, get_or-eq_default}
 use lib.Seq.{get_or-set_same, get_or-set_other, set_out, ext_get_or}
 use borrow.Author.Tests.{eq-eqb, ne_eqb}
-use Rattle.bits.specs.declared.top.Highest.{Highest}
-use Rattle.bits.specs.declared.top.Highest.TheVariants.{At, Nothing}
 use Rattle.bits.specs.Word.{word_index, bit_index, bit_of}
 use Rattle.bits.specs.Members.{has, marked, cleared, highest_below, is_nothing, NoneBelow, Top}
 use Rattle.bits.proofs.Bits.{bit_zero, bits_ext, set_same, set_other, set_lt, cleared_same, cleared_other, cleared_lt}
@@ -108,25 +107,25 @@ module _ (words : List ℕ) (v : ℕ) where
 
 module _ (words : List ℕ) where
   -- one step of the walk down, from n to k: it ends at k, or goes on from there
-  pub walk_step : (n k : ℕ) {b : Bool} → n ≡ suc k → has words k ≡ b → highest_below words n ≡ cond b (At k) (highest_below words k)
+  pub walk_step : (n k : ℕ) {b : Bool} → n ≡ suc k → has words k ≡ b → highest_below words n ≡ cond b (Some k) (highest_below words k)
   unfolding highest_below
-  walk_step n k q e = rw q (ap (λ (b : Bool). cond b (At k) (highest_below words k)) e)
+  walk_step n k q e = rw q (ap (λ (b : Bool). cond b (Some k) (highest_below words k)) e)
 
-  pub walk_ended : highest_below words 0 ≡ Nothing
+  pub walk_ended : highest_below words 0 ≡ None
   unfolding highest_below
   walk_ended = refl
 
-  top_highest : (n v : ℕ) → Top (has words) n v → highest_below words n ≡ At v
+  top_highest : (n v : ℕ) → Top (has words) n v → highest_below words n ≡ Some v
   top_highest zero v t = absurd (omega arith)
   top_highest (suc n) v t = go (ℕ_discrete v n) (top_highest n v)
     where
-      go : Dec (v ≡ n) → (Top (has words) n v → highest_below words n ≡ At v) → highest_below words (suc n) ≡ At v
+      go : Dec (v ≡ n) → (Top (has words) n v → highest_below words n ≡ Some v) → highest_below words (suc n) ≡ Some v
       go (yes q) ih = rw q (walk_step (suc n) n {b = true} refl (rw (← q) t.there))
       go (no d) ih =
           walk_step (suc n) n refl (t.above n (omega arith) (omega arith))
           ∙ ih (record { inside = omega arith; there = t.there; above = λ k g m. t.above k g (omega arith) })
 
-  none_highest : (n : ℕ) → NoneBelow (has words) n → highest_below words n ≡ Nothing
+  none_highest : (n : ℕ) → NoneBelow (has words) n → highest_below words n ≡ None
   none_highest zero h = walk_ended
   none_highest (suc n) h = walk_step (suc n) n refl (h n (omega arith)) ∙ none_highest n (λ k l. h k (omega arith))
 
@@ -148,32 +147,32 @@ module _ (words : List ℕ) where
       go false e (inl t) = inl (t.0, record { inside = omega arith; there = t.1.there; above = λ k l m. more k e (t.1.above k l) m })
       go false e (inr h) = inr (λ k m. more k e (h k) m)
 
-  highest_top : (n v : ℕ) → highest_below words n ≡ At v → Top (has words) n v
+  highest_top : (n v : ℕ) → highest_below words n ≡ Some v → Top (has words) n v
   highest_top n v e = go (below_cases n)
     where
       go : ((u : ℕ) × Top (has words) n u) ⊎ NoneBelow (has words) n → Top (has words) n v
       go (inl t) = let same : t.0 ≡ v = cc (top_highest n t.0 t.1) in rw same at t.1
       go (inr h) = let z : ◌≡◌ {A = ℕ} 0 1 = cc (none_highest n h) in absurd (omega arith)
 
-  highest_none : (n : ℕ) → highest_below words n ≡ Nothing → NoneBelow (has words) n
+  highest_none : (n : ℕ) → highest_below words n ≡ None → NoneBelow (has words) n
   highest_none n e = go (below_cases n)
     where
       go : ((u : ℕ) × Top (has words) n u) ⊎ NoneBelow (has words) n → NoneBelow (has words) n
       go (inl t) = let z : ◌≡◌ {A = ℕ} 0 1 = cc (top_highest n t.0 t.1) in absurd (omega arith)
       go (inr h) = h
 
-  pub highest_at : (n v : ℕ) → (highest_below words n ≡ At v) ↔ Top (has words) n v
+  pub highest_at : (n v : ℕ) → (highest_below words n ≡ Some v) ↔ Top (has words) n v
   highest_at n v = (highest_top n v, top_highest n v)
 
-  pub highest_nothing : (n : ℕ) → (highest_below words n ≡ Nothing) ↔ NoneBelow (has words) n
+  pub highest_nothing : (n : ℕ) → (highest_below words n ≡ None) ↔ NoneBelow (has words) n
   highest_nothing n = (highest_none n, none_highest n)
 
-  nothing : (n : ℕ) → is_nothing (highest_below words n) ≡ true → highest_below words n ≡ Nothing
+  nothing : (n : ℕ) → is_nothing (highest_below words n) ≡ true → highest_below words n ≡ None
   nothing n = go (highest_below words n)
     where
-      go : (h : Highest) → is_nothing h ≡ true → h ≡ Nothing
-      go (At v) e = absurd (true≢false (sym e))
-      go Nothing e = refl
+      go : (h : Option ℕ) → is_nothing h ≡ true → h ≡ None
+      go (Some v) e = absurd (true≢false (sym e))
+      go None e = refl
 
   pub empty_none : (n : ℕ) → (is_nothing (highest_below words n) ≡ true) ↔ NoneBelow (has words) n
   empty_none n = (λ e. highest_none n (nothing n e), λ h. ap is_nothing (none_highest n h))

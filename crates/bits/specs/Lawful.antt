@@ -1,23 +1,21 @@
 -- What the sets have to satisfy, said once for a type S of sets of the numbers below n: the contract of `lawful`, so that the crate is
 -- proved only with these laws. They fix each operation by the numbers that the set has, and by nothing else.
 -- `Fit` is what each value of a program satisfies: two sets that fit and have the same numbers are equal.
-use Rattle.std.specs.Prelude.{◌≡◌, Bool, true, false, not, ◌&&◌, ◌||◌, ◌↔◌, ℕ, ◌^◌, ◌≤◌, ◌<◌, eqb}
-use Rattle.bits.specs.declared.top.Highest.{Highest}
-use Rattle.bits.specs.declared.top.Highest.TheVariants.{At, Nothing}
+use Rattle.std.specs.Prelude.{◌≡◌, Bool, true, false, not, ◌&&◌, ◌||◌, ◌↔◌, ℕ, ◌^◌, ◌≤◌, ◌<◌, eqb, Option, Some, None}
 use Rattle.bits.specs.declared.one_word.Bits64.{Bits64}
 use Rattle.bits.specs.declared.four_words.Bits256.{Bits256}
 use Rattle.bits.specs.Members.{NoneBelow, Top}
 use Rattle.bits.specs.Sets.{Fit64, has64, none64, mark64, clear64, empty64, highest64, Fit256, has256, none256, mark256, clear256, empty256, highest256}
 
 pub record SetLaws (S : Type 0) (n : ℕ) (Fit : S → Type 0) (has : S → ℕ → Bool) (none : S)
-    (mark clear : S → ℕ → S) (empty : S → Bool) (highest : S → Highest) : Type 0 where
+    (mark clear : S → ℕ → S) (empty : S → Bool) (highest : S → Option ℕ) : Type 0 where
   pub past : (s : S) (k : ℕ) → n ≤ k → has s k ≡ false
   pub none_has : (k : ℕ) → has none k ≡ false
   pub mark_has : (s : S) (v k : ℕ) → v < n → has (mark s v) k ≡ (eqb k v || has s k)
   pub mark_past : (s : S) (v k : ℕ) → n ≤ v → has (mark s v) k ≡ has s k
   pub clear_has : (s : S) (v k : ℕ) → has (clear s v) k ≡ (not (eqb k v) && has s k)
-  pub highest_at : (s : S) (v : ℕ) → (highest s ≡ At v) ↔ Top (has s) n v
-  pub highest_nothing : (s : S) → (highest s ≡ Nothing) ↔ NoneBelow (has s) n
+  pub highest_at : (s : S) (v : ℕ) → (highest s ≡ Some v) ↔ Top (has s) n v
+  pub highest_nothing : (s : S) → (highest s ≡ None) ↔ NoneBelow (has s) n
   pub empty_none : (s : S) → (empty s ≡ true) ↔ NoneBelow (has s) n
   pub same : (s t : S) → Fit s → Fit t → ((k : ℕ) → k < n → has s k ≡ has t k) → s ≡ t
   pub none_fit : Fit none

@@ -1,8 +1,6 @@
 -- THE MEANING, for both types: a set is a list of words of 64 bits, and number k is one bit of one word.
 -- Which numbers a set has, the set with one more and with one less, and which is the highest are said here and nowhere else.
-use Rattle.std.specs.Prelude.{◌≡◌, Bool, true, false, cond, List, ℕ, zero, suc, ◌<◌, get_or, set}
-use Rattle.bits.specs.declared.top.Highest.{Highest}
-use Rattle.bits.specs.declared.top.Highest.TheVariants.{At, Nothing}
+use Rattle.std.specs.Prelude.{◌≡◌, Bool, true, false, cond, List, ℕ, zero, suc, ◌<◌, get_or, set, Option, Some, None}
 use Rattle.bits.specs.Word.{word_index, bit_index, bit_of, set_bit, clear_bit}
 
 -- is k in the set
@@ -18,13 +16,13 @@ unfoldable pub cleared : List ℕ → ℕ → List ℕ
 cleared words k = set words (word_index k) (clear_bit (get_or words (word_index k) 0) (bit_index k))
 
 -- the highest number below n that is in the set
-unfoldable pub highest_below : List ℕ → ℕ → Highest
-highest_below words zero = Nothing
-highest_below words (suc n) = cond (has words n) (At n) (highest_below words n)
+unfoldable pub highest_below : List ℕ → ℕ → Option ℕ
+highest_below words zero = None
+highest_below words (suc n) = cond (has words n) (Some n) (highest_below words n)
 
-abbrev pub is_nothing : Highest → Bool
-is_nothing (At v) = false
-is_nothing Nothing = true
+abbrev pub is_nothing : Option ℕ → Bool
+is_nothing (Some v) = false
+is_nothing None = true
 
 -- ---- what the laws speak of, of any test
 

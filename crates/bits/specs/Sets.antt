@@ -1,7 +1,6 @@
 -- The sets of the two types, and what each method makes of them: `Members.antt` over their words.
 -- The words of a set are taken one by one, so that they are one or four whatever list it holds: a law then asks nothing of the set.
-use Rattle.std.specs.Prelude.{◌≡◌, Bool, List, [], ◌∷◌, ℕ, ◌^◌, ◌<◌, length, get_or}
-use Rattle.bits.specs.declared.top.Highest.{Highest}
+use Rattle.std.specs.Prelude.{◌≡◌, Bool, List, [], ◌∷◌, ℕ, ◌^◌, ◌<◌, length, get_or, Option}
 use Rattle.bits.specs.declared.one_word.Bits64.{Bits64}
 use Rattle.bits.specs.declared.four_words.Bits256.{Bits256}
 use Rattle.bits.specs.Members.{has, marked, cleared, highest_below, is_nothing}
@@ -26,7 +25,7 @@ mark64 s v = make64 (marked (words64 s) v)
 unfoldable pub clear64 : Bits64 → ℕ → Bits64
 clear64 s v = make64 (cleared (words64 s) v)
 
-unfoldable pub highest64 : Bits64 → Highest
+unfoldable pub highest64 : Bits64 → Option ℕ
 highest64 s = highest_below (words64 s) 64
 
 unfoldable pub empty64 : Bits64 → Bool
@@ -56,7 +55,7 @@ mark256 s v = make256 (marked (words256 s) v)
 unfoldable pub clear256 : Bits256 → ℕ → Bits256
 clear256 s v = make256 (cleared (words256 s) v)
 
-unfoldable pub highest256 : Bits256 → Highest
+unfoldable pub highest256 : Bits256 → Option ℕ
 highest256 s = highest_below (words256 s) 256
 
 unfoldable pub empty256 : Bits256 → Bool

@@ -2,7 +2,6 @@
 ghost use Rattle.std.specs.Prelude.{◌≡◌};
 ghost use Rattle.bits.specs.Sets.{has256, none256, mark256, clear256, empty256, highest256};
 
-use crate::top::Highest;
 use crate::word::{WORD_BITS, clear_bit, set_bit, test_bit};
 
 const NUMBERS: u16 = 256;
@@ -51,20 +50,20 @@ impl Bits256 {
     }
 
     // A walk down from the top; most sets are empty, and these are told first.
-    pub fn highest(self) -> Highest
+    pub fn highest(self) -> Option<u8>
         ensures { result ≡ highest256 self }
     {
         if self.is_empty() {
-            return Highest::Nothing;
+            return None;
         }
         let mut left: u16 = NUMBERS;
         while 0 < left {
             left -= 1;
             let v = left as u8;
             if self.test(v) {
-                return Highest::At(v);
+                return Some(v);
             }
         }
-        Highest::Nothing
+        None
     }
 }

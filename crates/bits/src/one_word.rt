@@ -2,7 +2,6 @@
 ghost use Rattle.std.specs.Prelude.{◌≡◌};
 ghost use Rattle.bits.specs.Sets.{has64, none64, mark64, clear64, empty64, highest64};
 
-use crate::top::Highest;
 use crate::word::{WORD_BITS, clear_bit, set_bit, test_bit};
 
 #[derive(Clone, Copy, Drop)]
@@ -55,19 +54,19 @@ impl Bits64 {
     }
 
     // A walk down from the top; most sets are empty, and these are told first.
-    pub fn highest(self) -> Highest
+    pub fn highest(self) -> Option<u8>
         ensures { result ≡ highest64 self }
     {
         if self.is_empty() {
-            return Highest::Nothing;
+            return None;
         }
         let mut left: u8 = WORD_BITS;
         while 0 < left {
             left -= 1;
             if self.test(left) {
-                return Highest::At(left);
+                return Some(left);
             }
         }
-        Highest::Nothing
+        None
     }
 }

@@ -1,5 +1,7 @@
 -- Different answers have different bytes: an answer can be read off its bytes (`answer_at`), where no injected vector is 00 and no
 -- kicked CPU FF. The code tells the case, and each field stands in bytes of its own.
+use Rattle.std.specs.Prelude.{Option, Some, None}
+use Rattle.meaning.specs.declared.answer.SubjectVector.{SubjectVector}
 use Prim.Native.Nat.{ℕ, ◌+◌, ◌*◌, ◌/◌, ◌%◌, ◌<◌}
 use mathlib.Core.Bool.{Bool, true, false, cond}
 use mathlib.Core.List.{List}
@@ -9,10 +11,6 @@ use lib.Dec.{eqb}
 use lib.ListN.{get_or}
 use lib.Pow.{split}
 use borrow.Author.Tests.{ne_eqb}
-use Rattle.calls.specs.declared.answer.Kick.{Kick}
-use Rattle.calls.specs.declared.answer.Kick.TheVariants.{Nobody, Cpu}
-use Rattle.calls.specs.declared.answer.Injected.{Injected}
-use Rattle.calls.specs.declared.answer.Injected.TheVariants.{Nothing, Vector}
 use Rattle.calls.specs.declared.answer.Notes.{Notes}
 use Rattle.calls.specs.declared.answer.Reason.{Reason}
 use Rattle.calls.specs.declared.answer.Reason.TheVariants.{Reboot, PowerOff, Panic, HighTrap}
@@ -24,21 +22,21 @@ use Rattle.calls.specs.Answers.{nobody, vector_of, kick_of, bits_of, number_of, 
 
 -- ---- the fields, from their bytes
 
-vector_at : ℕ → Injected
-vector_at v = cond (eqb v 0) Nothing (Vector (record { 0 = v }))
+vector_at : ℕ → Option SubjectVector
+vector_at v = cond (eqb v 0) None (Some (record { 0 = v }))
 
-vector_back : (i : Injected) → (i ≡ Vector (record { 0 = 0 }) → ⊥) → vector_at (vector_of i) ≡ i
+vector_back : (i : Option SubjectVector) → (i ≡ Some (record { 0 = 0 }) → ⊥) → vector_at (vector_of i) ≡ i
 unfolding vector_at vector_of
-vector_back Nothing h = refl
-vector_back (Vector v) h = rw (ne_eqb v.0 0 (λ e. h (ap (λ (x : ℕ). Vector (record { 0 = x })) e)))
+vector_back None h = refl
+vector_back (Some v) h = rw (ne_eqb v.0 0 (λ e. h (ap (λ (x : ℕ). Some (record { 0 = x })) e)))
 
-kick_at : ℕ → Kick
-kick_at k = cond (eqb k nobody) Nobody (Cpu k)
+kick_at : ℕ → Option ℕ
+kick_at k = cond (eqb k nobody) None (Some k)
 
-kick_back : (k : Kick) → (k ≡ Cpu nobody → ⊥) → kick_at (kick_of k) ≡ k
+kick_back : (k : Option ℕ) → (k ≡ Some nobody → ⊥) → kick_at (kick_of k) ≡ k
 unfolding kick_at kick_of
-kick_back Nobody h = refl
-kick_back (Cpu cpu) h = rw (ne_eqb cpu nobody (λ e. h (ap Cpu e)))
+kick_back None h = refl
+kick_back (Some cpu) h = rw (ne_eqb cpu nobody (λ e. h (ap Some e)))
 
 record Bits (a r n : Bool) : Type 0 where
   advance : eqb (bits_of a r n % 2) 1 ≡ a
@@ -59,7 +57,7 @@ bits_back false false false = record { advance = refl; reset = refl; opens = ref
 notes_at : ℕ → ℕ → Notes
 notes_at bits k = record { advance = eqb (bits % 2) 1; new_frame = eqb (bits / 4 % 2) 1; kick = kick_at k }
 
-notes_back : (reset : Bool) (n : Notes) → (n.kick ≡ Cpu nobody → ⊥) → notes_at (bits_of n.advance reset n.new_frame) (kick_of n.kick) ≡ n
+notes_back : (reset : Bool) (n : Notes) → (n.kick ≡ Some nobody → ⊥) → notes_at (bits_of n.advance reset n.new_frame) (kick_of n.kick) ≡ n
 unfolding notes_at
 notes_back reset n h =
     let b = bits_back n.advance reset n.new_frame in

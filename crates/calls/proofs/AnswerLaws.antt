@@ -1,4 +1,6 @@
 -- An answer's bytes: seven, each fitting a byte, the code first; its line; and the masked lines, eight a byte.
+use Rattle.std.specs.Prelude.{Option, Some, None}
+use Rattle.meaning.specs.declared.answer.SubjectVector.{SubjectVector}
 use Prim.Native.Nat.{ℕ, zero, suc, ◌+◌, ◌-◌, ◌*◌, ◌/◌, ◌%◌, ◌^◌, ◌≤◌, ◌<◌}
 use mathlib.Core.Bool.{Bool, true, false}
 use mathlib.Core.List.{List, ◌++◌}
@@ -15,10 +17,6 @@ use Rattle.hexline.specs.Writes.{line_text}
 use Rattle.hexline.specs.Lawful.{Bytes}
 use Rattle.hexline.specs.declared.read.Line.TheVariants.{Whole}
 use Rattle.hexline.proofs.ByteLaws.{written_line, text_length}
-use Rattle.calls.specs.declared.answer.Kick.{Kick}
-use Rattle.calls.specs.declared.answer.Kick.TheVariants.{Nobody, Cpu}
-use Rattle.calls.specs.declared.answer.Injected.{Injected}
-use Rattle.calls.specs.declared.answer.Injected.TheVariants.{Nothing, Vector}
 use Rattle.calls.specs.declared.answer.Reason.{Reason}
 use Rattle.calls.specs.declared.answer.Reason.TheVariants.{Reboot, PowerOff, Panic, HighTrap}
 use Rattle.calls.specs.declared.answer.Refusal.{Refusal}
@@ -45,15 +43,15 @@ fifteen a = omega (arith, text_length (bytes_of a), seven a)
 
 -- ---- each fits a byte
 
-vector_small : (i : Injected) → FitsInjected i → vector_of i < 256
+vector_small : (i : Option SubjectVector) → FitsInjected i → vector_of i < 256
 unfolding vector_of FitsInjected
-vector_small Nothing f = omega arith
-vector_small (Vector v) f = f
+vector_small None f = omega arith
+vector_small (Some v) f = f
 
-kick_small : (k : Kick) → FitsKick k → kick_of k < 256
+kick_small : (k : Option ℕ) → FitsKick k → kick_of k < 256
 unfolding kick_of FitsKick
-kick_small Nobody f = omega arith
-kick_small (Cpu cpu) f = f
+kick_small None f = omega arith
+kick_small (Some cpu) f = f
 
 bits_small : (a r n : Bool) → bits_of a r n < 256
 unfolding bits_of

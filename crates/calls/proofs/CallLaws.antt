@@ -1,5 +1,7 @@
 -- A line is heard as a call exactly if it is that call's line. A call and its bytes are each other's inverse (`back`, `told`); that a
 -- line and its bytes are is hexline's. Where a line ends, and that what follows does not matter, is hexline's too.
+use Rattle.std.specs.Prelude.{Option, Some, None}
+use Rattle.calls.specs.declared.hearing.CallLine.{CallLine}
 use Prim.Native.Nat.{ℕ, ◌<◌}
 use mathlib.Core.Logic.{◌↔◌}
 use mathlib.Core.List.{List, [], ◌∷◌, ◌++◌, append_assoc}
@@ -19,17 +21,13 @@ use Rattle.hexline.proofs.ByteLaws.{written_line, whole}
 use Rattle.hexline.proofs.LineLaws.{whole_ends, ill_formed_ends, unended as line_unended, local as line-local}
 use Rattle.calls.specs.declared.call.Call.{Call}
 use Rattle.calls.specs.declared.call.Call.TheVariants.{Tick, Hypercall, Trap, Interrupt, Choose, Report, Masks}
-use Rattle.calls.specs.declared.call.Heard.{Heard}
-use Rattle.calls.specs.declared.call.Heard.TheVariants as heard
-use Rattle.calls.specs.declared.hearing.CallLine.{CallLine}
-use Rattle.calls.specs.declared.hearing.CallLine.TheVariants.{Ended, Unended}
 use Rattle.calls.specs.Calls.{call_bytes, heard_in, call_in, call_line, heard_from, heard_of, FitsCall}
 use Rattle.calls.specs.Lawful.{Begins}
 use Rattle.calls.proofs.LineBytes.{AllBytes, all_bytes, front_bytes, line_bytes}
 
 -- ---- a call and its bytes
 
-back : (c : Call) → heard_in (call_bytes c) ≡ heard.Call c
+back : (c : Call) → heard_in (call_bytes c) ≡ Some c
 unfolding call_bytes heard_in
 back (Tick cpu flag) = refl
 back (Hypercall cpu event flag) = refl
@@ -40,9 +38,9 @@ back (Report partition) = refl
 back Masks = refl
 
 -- what bytes are heard as tells them
-Told : List ℕ → Heard → Type 0
-Told bytes (heard.Call c) = bytes ≡ call_bytes c
-Told bytes heard.IllFormed = Unit
+Told : List ℕ → Option Call → Type 0
+Told bytes (Some c) = bytes ≡ call_bytes c
+Told bytes None = Unit
 
 told : (bytes : List ℕ) → Told bytes (heard_in bytes)
 unfolding Told call_bytes heard_in
@@ -104,57 +102,57 @@ whole_bytes text more n end w =
     let e : line_text bytes ++ (drop end text ++ more) ≡ text ++ more = sym (append_assoc (line_text bytes) (drop end text) more) ∙ ap (λ (t : List ℕ). t ++ more) (sym w.written) in
     rw (e, w.count) at b
 
-pub line_whole : (text : List ℕ) (n end : ℕ) → line_of text ≡ Whole n end → call_line text ≡ Ended (heard_in (take n (spelled text))) end
+pub line_whole : (text : List ℕ) (n end : ℕ) → line_of text ≡ Whole n end → call_line text ≡ Some (record { heard = heard_in (take n (spelled text)); end = end })
 unfolding call_line call_in
 line_whole text n end e = rw e
 
-pub line_ill_formed : (text : List ℕ) (end : ℕ) → line_of text ≡ IllFormedLine end → call_line text ≡ Ended heard.IllFormed end
+pub line_ill_formed : (text : List ℕ) (end : ℕ) → line_of text ≡ IllFormedLine end → call_line text ≡ Some (record { heard = None; end = end })
 unfolding call_line call_in
 line_ill_formed text end e = rw e
 
-pub line_none : (text : List ℕ) → line_of text ≡ UnendedLine → call_line text ≡ Unended
+pub line_none : (text : List ℕ) → line_of text ≡ UnendedLine → call_line text ≡ None
 unfolding call_line call_in
 line_none text e = rw e
 
-pub heard_ended : (text : List ℕ) (h : Heard) (end : ℕ) → call_line text ≡ Ended h end → heard_of text ≡ h
+pub heard_ended : (text : List ℕ) (h : Option Call) (end : ℕ) → call_line text ≡ Some (record { heard = h; end = end }) → heard_of text ≡ h
 unfolding heard_of heard_from
 heard_ended text h end e = rw e
 
-pub heard_unended : (text : List ℕ) → call_line text ≡ Unended → heard_of text ≡ heard.IllFormed
+pub heard_unended : (text : List ℕ) → call_line text ≡ None → heard_of text ≡ None
 unfolding heard_of heard_from
 heard_unended text e = rw e
 
 -- ---- what is written is heard
 
-written_heard : (bytes rest : List ℕ) → Bytes bytes → 0 < length bytes → call_line (line_text bytes ++ rest) ≡ Ended (heard_in bytes) (length (line_text bytes))
+written_heard : (bytes rest : List ℕ) → Bytes bytes → 0 < length bytes → call_line (line_text bytes ++ rest) ≡ Some (record { heard = heard_in bytes; end = length (line_text bytes) })
 written_heard bytes rest f h =
     line_whole (line_text bytes ++ rest) (length bytes) (length (line_text bytes)) (written_line bytes rest f h)
-    ∙ ap (λ (l : List ℕ). Ended (heard_in l) (length (line_text bytes))) (line_bytes bytes rest f h)
+    ∙ ap (λ (l : List ℕ). Some (record { heard = heard_in l; end = length (line_text bytes) })) (line_bytes bytes rest f h)
 
-pub heard_back : (c : Call) (rest : List ℕ) → FitsCall c → call_line (line_text (call_bytes c) ++ rest) ≡ Ended (heard.Call c) (length (line_text (call_bytes c)))
+pub heard_back : (c : Call) (rest : List ℕ) → FitsCall c → call_line (line_text (call_bytes c) ++ rest) ≡ Some (record { heard = Some c; end = length (line_text (call_bytes c)) })
 heard_back c rest f =
     written_heard (call_bytes c) rest (call_bytes_lem c f) (call_some c)
-    ∙ ap (λ (h : Heard). Ended h (length (line_text (call_bytes c)))) (back c)
+    ∙ ap (λ (h : Option Call). Some (record { heard = h; end = length (line_text (call_bytes c)) })) (back c)
 
-begun : (text : List ℕ) (c : Call) → Begins text c → heard_of text ≡ heard.Call c
+begun : (text : List ℕ) (c : Call) → Begins text c → heard_of text ≡ Some c
 begun text c b =
-    subst (λ (t : List ℕ). heard_of t ≡ heard.Call c) (sym b.written)
-    (heard_ended (line_text (call_bytes c) ++ b.rest) (heard.Call c) (length (line_text (call_bytes c))) (heard_back c b.rest b.fits))
+    subst (λ (t : List ℕ). heard_of t ≡ Some c) (sym b.written)
+    (heard_ended (line_text (call_bytes c) ++ b.rest) (Some c) (length (line_text (call_bytes c))) (heard_back c b.rest b.fits))
 
 -- ---- what is heard was written so
 
-Spoken : List ℕ → Heard → Type 0
-Spoken text (heard.Call c) = Begins text c
-Spoken text heard.IllFormed = Unit
+Spoken : List ℕ → Option Call → Type 0
+Spoken text (Some c) = Begins text c
+Spoken text None = Unit
 
-whole_spoken : (text : List ℕ) (n end : ℕ) → WholeLine text n end → (h : Heard) → Told (take n (spelled text)) h → Spoken text h
+whole_spoken : (text : List ℕ) (n end : ℕ) → WholeLine text n end → (h : Option Call) → Told (take n (spelled text)) h → Spoken text h
 unfolding Told Spoken
-whole_spoken text n end w (heard.Call c) t = record {
+whole_spoken text n end w (Some c) t = record {
   fits = bytes_call c (subst Bytes t (front_bytes n (spelled text) w.bytes));
   rest = drop end text;
   written = subst (λ (l : List ℕ). text ≡ line_text l ++ drop end text) t w.written;
 }
-whole_spoken text n end w heard.IllFormed t = tt
+whole_spoken text n end w None t = tt
 
 spoken : (text : List ℕ) → Spoken text (heard_of text)
 unfolding Spoken heard_of heard_from call_line call_in
@@ -165,28 +163,28 @@ spoken text = of (line_of text) refl
     of (IllFormedLine end) e = tt
     of UnendedLine e = tt
 
-pub called : (text : List ℕ) (c : Call) → (heard_of text ≡ heard.Call c) ↔ Begins text c
+pub called : (text : List ℕ) (c : Call) → (heard_of text ≡ Some c) ↔ Begins text c
 unfolding Spoken
 called text c = (λ e. rw e at (spoken text), begun text c)
 
-pub ill_formed : (text : List ℕ) → (heard_of text ≡ heard.IllFormed) ↔ ((c : Call) → Begins text c → ⊥)
+pub ill_formed : (text : List ℕ) → (heard_of text ≡ None) ↔ ((c : Call) → Begins text c → ⊥)
 unfolding Spoken
 ill_formed text = (λ e c b. apart c (sym e ∙ begun text c b), λ f. of f (heard_of text) (spoken text))
   where
-    apart : (c : Call) → heard.IllFormed ≡ heard.Call c → ⊥
+    apart : (c : Call) → None ≡ Some c → ⊥
     apart c e =
         let z : ◌≡◌ {A = ℕ} 0 1 = cc in
         omega arith
 
-    of : ((c : Call) → Begins text c → ⊥) → (h : Heard) → Spoken text h → h ≡ heard.IllFormed
-    of f (heard.Call c) s = absurd (f c s)
-    of f heard.IllFormed s = refl
+    of : ((c : Call) → Begins text c → ⊥) → (h : Option Call) → Spoken text h → h ≡ None
+    of f (Some c) s = absurd (f c s)
+    of f None s = refl
 
 -- ---- where a line ends
 
-EndTold : List ℕ → CallLine → Type 0
-EndTold text (Ended h end) = FirstNewline text end
-EndTold text Unended = (k : ℕ) → get_or text k 0 ≡ newline → ⊥
+EndTold : List ℕ → Option CallLine → Type 0
+EndTold text (Some line) = FirstNewline text line.end
+EndTold text None = (k : ℕ) → get_or text k 0 ≡ newline → ⊥
 
 end_told : (text : List ℕ) → EndTold text (call_line text)
 unfolding EndTold call_line call_in
@@ -197,11 +195,11 @@ end_told text = of (line_of text) refl
     of (IllFormedLine end) e = ill_formed_ends text end e
     of UnendedLine e = (line_unended text).0 e
 
-pub ended : (text : List ℕ) (h : Heard) (end : ℕ) → call_line text ≡ Ended h end → (heard_of text ≡ h) × FirstNewline text end
+pub ended : (text : List ℕ) (h : Option Call) (end : ℕ) → call_line text ≡ Some (record { heard = h; end = end }) → (heard_of text ≡ h) × FirstNewline text end
 unfolding EndTold
 ended text h end e = (heard_ended text h end e, rw e at (end_told text))
 
-pub unended : (text : List ℕ) → (call_line text ≡ Unended) ↔ ((k : ℕ) → get_or text k 0 ≡ newline → ⊥)
+pub unended : (text : List ℕ) → (call_line text ≡ None) ↔ ((k : ℕ) → get_or text k 0 ≡ newline → ⊥)
 unfolding EndTold
 unended text = (λ e. rw e at (end_told text), λ f. line_none text ((line_unended text).1 f))
 
@@ -210,6 +208,6 @@ unfolding call_line call_in
 local text more h = of (line_of text) refl
   where
     of : (l : Line) → line_of text ≡ l → call_in (text ++ more) (line_of (text ++ more)) ≡ call_in text (line_of text)
-    of (Whole n end) e = rw (line-local text more h, e) (ap (λ (b : List ℕ). Ended (heard_in b) end) (whole_bytes text more n end (whole text n end e)))
+    of (Whole n end) e = rw (line-local text more h, e) (ap (λ (b : List ℕ). Some (record { heard = heard_in b; end = end })) (whole_bytes text more n end (whole text n end e)))
     of (IllFormedLine end) e = rw (line-local text more h, e)
     of UnendedLine e = rw (line-local text more h, e)

@@ -1,6 +1,7 @@
 -- Worked lines, computed by the definitions: document 01's bench session, each of its sixteen calls heard and each of its sixteen
 -- answers, written here as an `Answer`, with the bytes of the paper's table; the reasons, bits and refusals that the session has not;
 -- and one line for each way to be no call. The order of fields, which no law of telling answers apart can show, shows here.
+use Rattle.std.specs.Prelude.{Some, None}
 use Prim.Native.Nat.{ℕ}
 use mathlib.Core.Bool.{true, false}
 use mathlib.Core.Path.{◌≡◌, refl}
@@ -10,10 +11,6 @@ use Rattle.hexline.specs.Lines.{line_length, all_digits, well_formed, line_of, b
 use Rattle.hexline.specs.Writes.{pair_of, pairs_of, line_text}
 use Rattle.calls.specs.declared.call.Call.{Call}
 use Rattle.calls.specs.declared.call.Call.TheVariants as call
-use Rattle.calls.specs.declared.call.Heard.TheVariants as heard
-use Rattle.calls.specs.declared.hearing.CallLine.TheVariants.{Ended, Unended}
-use Rattle.calls.specs.declared.answer.Kick.TheVariants.{Nobody, Cpu}
-use Rattle.calls.specs.declared.answer.Injected.TheVariants.{Nothing, Vector}
 use Rattle.calls.specs.declared.answer.Notes.{Notes}
 use Rattle.calls.specs.declared.answer.Reason.TheVariants.{Reboot, PowerOff, Panic, HighTrap}
 use Rattle.calls.specs.declared.answer.Refusal.TheVariants as refusal
@@ -69,40 +66,40 @@ calls_written : map call_bytes session_calls ≡ session_lines
 unfolding session_calls session_lines call_bytes
 calls_written = refl
 
-calls_heard : map (λ (l : List ℕ). heard_of (line_text l)) session_lines ≡ map (λ (c : Call). heard.Call c) session_calls
+calls_heard : map (λ (l : List ℕ). heard_of (line_text l)) session_lines ≡ map (λ (c : Call). Some c) session_calls
 unfolding session_calls session_lines heard_of heard_from call_line call_in heard_in line_of line_length well_formed all_digits is_digit digit_of spelled byte_of line_text pairs_of pair_of hex_of
 calls_heard = refl
 
 -- ---- the session's answers
 
 quiet : Notes
-quiet = record { advance = false; new_frame = false; kick = Nobody }
+quiet = record { advance = false; new_frame = false; kick = None }
 
 advancing : Notes
-advancing = record { advance = true; new_frame = false; kick = Nobody }
+advancing = record { advance = true; new_frame = false; kick = None }
 
 kicking : Notes
-kicking = record { advance = true; new_frame = false; kick = Cpu 1 }
+kicking = record { advance = true; new_frame = false; kick = Some 1 }
 
 opening : Notes
-opening = record { advance = false; new_frame = true; kick = Nobody }
+opening = record { advance = false; new_frame = true; kick = None }
 
 session_answers : List Answer
 session_answers =
-    (Enter 0 2 Nothing false quiet)
-    ∷ (Enter 2 2 Nothing false quiet)
+    (Enter 0 2 None false quiet)
+    ∷ (Enter 2 2 None false quiet)
     ∷ (Idle 2 advancing)
-    ∷ (Enter 0 2 Nothing false kicking)
-    ∷ (Enter 2 2 (Vector (record { 0 = 48 })) false quiet)
-    ∷ (Enter 1 2 Nothing false advancing)
-    ∷ (Enter 1 2 Nothing false quiet)
+    ∷ (Enter 0 2 None false kicking)
+    ∷ (Enter 2 2 (Some (record { 0 = 48 })) false quiet)
+    ∷ (Enter 1 2 None false advancing)
+    ∷ (Enter 1 2 None false quiet)
     ∷ (GoOn 1 1)
     ∷ Wait
     ∷ Wait
     ∷ (GoOn 2 1)
-    ∷ (Enter 2 2 Nothing false opening)
+    ∷ (Enter 2 2 None false opening)
     ∷ (Refused refusal.NobodyEntered)
-    ∷ (Enter 1 2 (Vector (record { 0 = 64 })) false quiet)
+    ∷ (Enter 1 2 (Some (record { 0 = 64 })) false quiet)
     ∷ (Report 0 0 2)
     ∷ (Masks (record { word = 1024 }))
     ∷ []
@@ -136,9 +133,9 @@ answers_written = refl
 
 -- `0F0FA0`: 4,000 ticks left; a reset, alone and with both other bits; idle with a kick and a new frame; nobody entered at a go on
 others : map bytes_of
-    (Enter 15 4000 (Vector (record { 0 = 255 })) true quiet
-    ∷ Enter 3 1 Nothing true (record { advance = true; new_frame = true; kick = Cpu 0 })
-    ∷ Idle 257 (record { advance = false; new_frame = true; kick = Cpu 3 })
+    (Enter 15 4000 (Some (record { 0 = 255 })) true quiet
+    ∷ Enter 3 1 None true (record { advance = true; new_frame = true; kick = Some 0 })
+    ∷ Idle 257 (record { advance = false; new_frame = true; kick = Some 3 })
     ∷ GoOn 255 1
     ∷ Chosen
     ∷ Report 7 258 772
@@ -184,12 +181,12 @@ other_calls = refl
 -- ---- a line and its text
 
 -- `1300FE00` and a digit of the next line
-interrupt_line : call_line (49 ∷ 51 ∷ 48 ∷ 48 ∷ 70 ∷ 69 ∷ 48 ∷ 48 ∷ 10 ∷ 49 ∷ []) ≡ Ended (heard.Call (call.Interrupt 0 254 0)) 9
+interrupt_line : call_line (49 ∷ 51 ∷ 48 ∷ 48 ∷ 70 ∷ 69 ∷ 48 ∷ 48 ∷ 10 ∷ 49 ∷ []) ≡ Some (record { heard = Some (call.Interrupt 0 254 0); end = 9 })
 unfolding call_line call_in heard_in line_of line_length well_formed all_digits is_digit digit_of spelled byte_of
 interrupt_line = refl
 
 -- `000000020000FF`
-enter_line : line_text (bytes_of (Enter 0 2 Nothing false quiet)) ≡ 48 ∷ 48 ∷ 48 ∷ 48 ∷ 48 ∷ 48 ∷ 48 ∷ 50 ∷ 48 ∷ 48 ∷ 48 ∷ 48 ∷ 70 ∷ 70 ∷ 10 ∷ []
+enter_line : line_text (bytes_of (Enter 0 2 None false quiet)) ≡ 48 ∷ 48 ∷ 48 ∷ 48 ∷ 48 ∷ 48 ∷ 48 ∷ 50 ∷ 48 ∷ 48 ∷ 48 ∷ 48 ∷ 70 ∷ 70 ∷ 10 ∷ []
 unfolding quiet bytes_of vector_of kick_of bits_of line_text pairs_of pair_of hex_of
 enter_line = refl
 
@@ -202,15 +199,15 @@ no_calls : map heard_of
     ∷ (49 ∷ 55 ∷ 10 ∷ [])
     ∷ (49 ∷ 51 ∷ 48 ∷ 48 ∷ 102 ∷ 101 ∷ 48 ∷ 48 ∷ 10 ∷ [])
     ∷ [])
-    ≡ heard.IllFormed ∷ heard.IllFormed ∷ heard.IllFormed ∷ heard.IllFormed ∷ heard.IllFormed ∷ heard.IllFormed ∷ []
+    ≡ None ∷ None ∷ None ∷ None ∷ None ∷ None ∷ []
 unfolding heard_of heard_from call_line call_in heard_in line_of line_length well_formed all_digits is_digit digit_of spelled byte_of
 no_calls = refl
 
 -- `16` and no newline: a perfect call, but a last line without newline
-no_newline : call_line (49 ∷ 54 ∷ []) ≡ Unended
+no_newline : call_line (49 ∷ 54 ∷ []) ≡ None
 unfolding call_line call_in line_of line_length
 no_newline = refl
 
-no_newline_heard : heard_of (49 ∷ 54 ∷ []) ≡ heard.IllFormed
+no_newline_heard : heard_of (49 ∷ 54 ∷ []) ≡ None
 unfolding heard_of heard_from call_line call_in line_of line_length
 no_newline_heard = refl

@@ -1,12 +1,12 @@
 -- What the code goes by: the count of a line's bytes, and the first four of them. Of a count from 1 to 4 the bytes looked at are all
 -- the bytes there are; of any other no call is heard.
+use Rattle.std.specs.Prelude.{None}
 use Prim.Native.Nat.{ℕ, ◌≤◌}
 use mathlib.Core.List.{List, [], ◌∷◌, ◌++◌}
 use mathlib.Core.Path.{◌≡◌, refl, ap, ◌∙◌}
 use native.Mathlib.Omega.{arith}
 use lib.ListN.{length, get_or, take}
 use lib.Seq.{take-suc, length-take-le}
-use Rattle.calls.specs.declared.call.Heard.TheVariants as heard
 use Rattle.calls.specs.Calls.{heard_in}
 
 -- the first bytes of a list, one by one
@@ -38,7 +38,7 @@ module _ (n : ℕ) (bytes : List ℕ) (long : n ≤ length bytes) where
   of_four a b c d e ea eb ec ed = rw (e, ea, eb, ec, ed, first_four bytes (omega arith))
 
 -- no call has another count of bytes
-no_call : (bytes : List ℕ) → (length bytes ≡ 1 → ⊥) → (length bytes ≡ 2 → ⊥) → (length bytes ≡ 3 → ⊥) → (length bytes ≡ 4 → ⊥) → heard_in bytes ≡ heard.IllFormed
+no_call : (bytes : List ℕ) → (length bytes ≡ 1 → ⊥) → (length bytes ≡ 2 → ⊥) → (length bytes ≡ 3 → ⊥) → (length bytes ≡ 4 → ⊥) → heard_in bytes ≡ None
 unfolding heard_in
 no_call [] h₁ h₂ h₃ h₄ = refl
 no_call (a ∷ []) h₁ h₂ h₃ h₄ = absurd (h₁ refl)
@@ -47,7 +47,7 @@ no_call (a ∷ b ∷ c ∷ []) h₁ h₂ h₃ h₄ = absurd (h₃ refl)
 no_call (a ∷ b ∷ c ∷ d ∷ []) h₁ h₂ h₃ h₄ = absurd (h₄ refl)
 no_call (a ∷ b ∷ c ∷ d ∷ e ∷ more) h₁ h₂ h₃ h₄ = refl
 
-pub of_other : (n : ℕ) (bytes : List ℕ) → n ≤ length bytes → (n ≡ 1 → ⊥) → (n ≡ 2 → ⊥) → (n ≡ 3 → ⊥) → (n ≡ 4 → ⊥) → heard_in (take n bytes) ≡ heard.IllFormed
+pub of_other : (n : ℕ) (bytes : List ℕ) → n ≤ length bytes → (n ≡ 1 → ⊥) → (n ≡ 2 → ⊥) → (n ≡ 3 → ⊥) → (n ≡ 4 → ⊥) → heard_in (take n bytes) ≡ None
 of_other n bytes h h₁ h₂ h₃ h₄ =
     let e = length-take-le n bytes h in
     no_call (take n bytes) (λ d. h₁ (omega arith)) (λ d. h₂ (omega arith)) (λ d. h₃ (omega arith)) (λ d. h₄ (omega arith))

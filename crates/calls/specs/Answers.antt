@@ -1,10 +1,7 @@
 -- Document 01's "Answer lines": "Seven bytes: code; subject or FF; ticks left in the minor frame (two); injected vector or 00; bits 1
 -- advance, 2 reset, 4 new frame (this tick opened a major frame); kicked CPU or FF." Two-byte numbers have the high byte first.
-use Rattle.std.specs.Prelude.{ℕ, ◌+◌, ◌/◌, ◌%◌, ◌^◌, ◌<◌, Bool, false, cond, ◌≡◌, List, [], ◌∷◌}
-use Rattle.calls.specs.declared.answer.Kick.{Kick}
-use Rattle.calls.specs.declared.answer.Kick.TheVariants.{Nobody, Cpu}
-use Rattle.calls.specs.declared.answer.Injected.{Injected}
-use Rattle.calls.specs.declared.answer.Injected.TheVariants.{Nothing, Vector}
+use Rattle.std.specs.Prelude.{ℕ, ◌+◌, ◌/◌, ◌%◌, ◌^◌, ◌<◌, Bool, false, cond, ◌≡◌, List, [], ◌∷◌, Option, Some, None}
+use Rattle.meaning.specs.declared.answer.SubjectVector.{SubjectVector}
 use Rattle.calls.specs.declared.answer.Reason.{Reason}
 use Rattle.calls.specs.declared.answer.Reason.TheVariants.{Reboot, PowerOff, Panic, HighTrap}
 use Rattle.calls.specs.declared.answer.Refusal.{Refusal}
@@ -17,14 +14,14 @@ abbrev pub nobody : ℕ
 nobody = 255
 
 -- "injected vector or 00"
-unfoldable pub vector_of : Injected → ℕ
-vector_of Nothing = 0
-vector_of (Vector v) = v.0
+unfoldable pub vector_of : Option SubjectVector → ℕ
+vector_of None = 0
+vector_of (Some v) = v.0
 
 -- "kicked CPU or FF"
-unfoldable pub kick_of : Kick → ℕ
-kick_of Nobody = nobody
-kick_of (Cpu cpu) = cpu
+unfoldable pub kick_of : Option ℕ → ℕ
+kick_of None = nobody
+kick_of (Some cpu) = cpu
 
 -- "bits 1 advance, 2 reset, 4 new frame"
 unfoldable pub bits_of : Bool → Bool → Bool → ℕ
@@ -70,13 +67,13 @@ bytes_of (Refused refused) = code_of refused ∷ unused
 -- ---- what the laws speak of
 
 -- every number fits: a byte, two, or a set of the IRQ lines 0-23
-unfoldable pub FitsInjected : Injected → Type 0
-FitsInjected Nothing = Unit
-FitsInjected (Vector v) = v.0 < 256
+unfoldable pub FitsInjected : Option SubjectVector → Type 0
+FitsInjected None = Unit
+FitsInjected (Some v) = v.0 < 256
 
-unfoldable pub FitsKick : Kick → Type 0
-FitsKick Nobody = Unit
-FitsKick (Cpu cpu) = cpu < 256
+unfoldable pub FitsKick : Option ℕ → Type 0
+FitsKick None = Unit
+FitsKick (Some cpu) = cpu < 256
 
 unfoldable pub Fits : Answer → Type 0
 Fits (Enter subject left injected reset notes) = (subject < 256) × ((left < 65536) × (FitsInjected injected × FitsKick notes.kick))
@@ -91,8 +88,8 @@ Fits (Refused refused) = Unit
 
 -- no injected vector is 00 and no kicked CPU FF, which say none
 unfoldable pub Telling : Answer → Type 0
-Telling (Enter subject left injected reset notes) = (injected ≡ Vector (record { 0 = 0 }) → ⊥) × (notes.kick ≡ Cpu nobody → ⊥)
-Telling (Idle left notes) = notes.kick ≡ Cpu nobody → ⊥
+Telling (Enter subject left injected reset notes) = (injected ≡ Some (record { 0 = 0 }) → ⊥) × (notes.kick ≡ Some nobody → ⊥)
+Telling (Idle left notes) = notes.kick ≡ Some nobody → ⊥
 Telling Wait = Unit
 Telling (GoOn subject left) = Unit
 Telling (Stopped subject reason) = Unit

@@ -1,16 +1,13 @@
 -- "A call is one of tick, hypercall, trap, interrupt, choose, report, masks." "As lines: `10` CPU flag; `11` CPU event flag; `12` CPU
 -- trap flag; `13` CPU vector flag; `14` major; `15` partition; `16`. Event, trap and vector are any byte." The line of a call, and the
 -- call that a line is heard as: none where document 01 refuses the line under 81, "line ill formed, unknown kind or wrong length".
-use Rattle.std.specs.Prelude.{ℕ, ◌<◌, cond, List, [], ◌∷◌, take, eqb}
+use Rattle.std.specs.Prelude.{ℕ, ◌<◌, cond, List, [], ◌∷◌, take, eqb, Option, Some, None}
+use Rattle.calls.specs.declared.hearing.CallLine.{CallLine}
 use Rattle.hexline.specs.Lines.{line_of, spelled}
 use Rattle.hexline.specs.declared.read.Line.{Line}
 use Rattle.hexline.specs.declared.read.Line.TheVariants.{Whole, IllFormed as IllFormedLine, Unended as UnendedLine}
 use Rattle.calls.specs.declared.call.Call.{Call}
 use Rattle.calls.specs.declared.call.Call.TheVariants.{Tick, Hypercall, Trap, Interrupt, Choose, Report, Masks}
-use Rattle.calls.specs.declared.call.Heard.{Heard}
-use Rattle.calls.specs.declared.call.Heard.TheVariants as heard
-use Rattle.calls.specs.declared.hearing.CallLine.{CallLine}
-use Rattle.calls.specs.declared.hearing.CallLine.TheVariants.{Ended, Unended}
 
 -- the bytes of a call's line, the kind first: 10 to 16 in hexadecimal
 unfoldable pub call_bytes : Call → List ℕ
@@ -23,34 +20,34 @@ call_bytes (Report partition) = 21 ∷ partition ∷ []
 call_bytes Masks = 22 ∷ []
 
 -- what the bytes of a line are heard as, by their count and kind; `proofs/CallLaws.antt`: these are the bytes of a call, or of none
-unfoldable pub heard_in : List ℕ → Heard
-heard_in [] = heard.IllFormed
-heard_in (kind ∷ []) = cond (eqb kind 22) (heard.Call Masks) heard.IllFormed
+unfoldable pub heard_in : List ℕ → Option Call
+heard_in [] = None
+heard_in (kind ∷ []) = cond (eqb kind 22) (Some Masks) None
 heard_in (kind ∷ number ∷ []) =
-    cond (eqb kind 20) (heard.Call (Choose number)) (cond (eqb kind 21) (heard.Call (Report number)) heard.IllFormed)
-heard_in (kind ∷ cpu ∷ flag ∷ []) = cond (eqb kind 16) (heard.Call (Tick cpu flag)) heard.IllFormed
+    cond (eqb kind 20) (Some (Choose number)) (cond (eqb kind 21) (Some (Report number)) None)
+heard_in (kind ∷ cpu ∷ flag ∷ []) = cond (eqb kind 16) (Some (Tick cpu flag)) None
 heard_in (kind ∷ cpu ∷ number ∷ flag ∷ []) =
-    cond (eqb kind 17) (heard.Call (Hypercall cpu number flag))
-    (cond (eqb kind 18) (heard.Call (Trap cpu number flag))
-    (cond (eqb kind 19) (heard.Call (Interrupt cpu number flag)) heard.IllFormed))
-heard_in (kind ∷ a ∷ b ∷ c ∷ d ∷ more) = heard.IllFormed
+    cond (eqb kind 17) (Some (Hypercall cpu number flag))
+    (cond (eqb kind 18) (Some (Trap cpu number flag))
+    (cond (eqb kind 19) (Some (Interrupt cpu number flag)) None))
+heard_in (kind ∷ a ∷ b ∷ c ∷ d ∷ more) = None
 
 -- by the line that the text begins with, of which `spelled` gives the bytes
-unfoldable pub call_in : List ℕ → Line → CallLine
-call_in text (Whole n end) = Ended (heard_in (take n (spelled text))) end
-call_in text (IllFormedLine end) = Ended heard.IllFormed end
-call_in text UnendedLine = Unended
+unfoldable pub call_in : List ℕ → Line → Option CallLine
+call_in text (Whole n end) = Some (record { heard = heard_in (take n (spelled text)); end = end })
+call_in text (IllFormedLine end) = Some (record { heard = None; end = end })
+call_in text UnendedLine = None
 
 -- the line that a text of calls begins with, and where it ends
-unfoldable pub call_line : List ℕ → CallLine
+unfoldable pub call_line : List ℕ → Option CallLine
 call_line text = call_in text (line_of text)
 
 -- "One answer line for each line of calls; an empty one, or a last one without newline, gets 81."
-unfoldable pub heard_from : CallLine → Heard
-heard_from (Ended h end) = h
-heard_from Unended = heard.IllFormed
+unfoldable pub heard_from : Option CallLine → Option Call
+heard_from (Some line) = line.heard
+heard_from None = None
 
-unfoldable pub heard_of : List ℕ → Heard
+unfoldable pub heard_of : List ℕ → Option Call
 heard_of text = heard_from (call_line text)
 
 -- every field fits its byte, as in each call of a program

@@ -1,6 +1,6 @@
 -- What the definitions of this crate have to satisfy, as the contract of `lawful`: a line is heard as a call exactly if it is that
 -- call's line, and is ill formed exactly if it is no call's; an answer has seven bytes, which tell it and which its line is read as.
-use Rattle.std.specs.Prelude.{ℕ, ◌-◌, ◌/◌, ◌%◌, ◌≤◌, ◌<◌, ◌≡◌, ◌↔◌, List, ◌++◌, length, get_or, take}
+use Rattle.std.specs.Prelude.{ℕ, ◌-◌, ◌/◌, ◌%◌, ◌≤◌, ◌<◌, ◌≡◌, ◌↔◌, List, ◌++◌, length, get_or, take, Option, Some, None}
 use Rattle.bits.specs.Word.{bit_of}
 use Rattle.bits.specs.Sets.{has64}
 use Rattle.bits.specs.declared.one_word.Bits64.{Bits64}
@@ -10,9 +10,6 @@ use Rattle.hexline.specs.Writes.{line_text}
 use Rattle.hexline.specs.Lawful.{Bytes, FirstNewline}
 use Rattle.hexline.specs.declared.read.Line.TheVariants.{Whole}
 use Rattle.calls.specs.declared.call.Call.{Call}
-use Rattle.calls.specs.declared.call.Heard.{Heard}
-use Rattle.calls.specs.declared.call.Heard.TheVariants as heard
-use Rattle.calls.specs.declared.hearing.CallLine.TheVariants.{Ended, Unended}
 use Rattle.calls.specs.declared.answer.Refusal.{Refusal}
 use Rattle.calls.specs.declared.answer.Answer.{Answer}
 use Rattle.calls.specs.declared.answer.Answer.TheVariants.{Masks, Refused}
@@ -27,14 +24,14 @@ pub record Begins (text : List ℕ) (c : Call) : Type 0 where
 
 pub record Lawful : Type 0 where
   -- the call that a line is heard as is the one whose line it is; a line of none is ill formed
-  pub called : (text : List ℕ) (c : Call) → (heard_of text ≡ heard.Call c) ↔ Begins text c
-  pub ill_formed : (text : List ℕ) → (heard_of text ≡ heard.IllFormed) ↔ ((c : Call) → Begins text c → ⊥)
+  pub called : (text : List ℕ) (c : Call) → (heard_of text ≡ Some c) ↔ Begins text c
+  pub ill_formed : (text : List ℕ) → (heard_of text ≡ None) ↔ ((c : Call) → Begins text c → ⊥)
   -- a line of calls ends past its first newline, and what follows it does not matter to it
-  pub ended : (text : List ℕ) (h : Heard) (end : ℕ) → call_line text ≡ Ended h end → (heard_of text ≡ h) × FirstNewline text end
-  pub unended : (text : List ℕ) → (call_line text ≡ Unended) ↔ ((k : ℕ) → get_or text k 0 ≡ newline → ⊥)
+  pub ended : (text : List ℕ) (h : Option Call) (end : ℕ) → call_line text ≡ Some (record { heard = h; end = end }) → (heard_of text ≡ h) × FirstNewline text end
+  pub unended : (text : List ℕ) → (call_line text ≡ None) ↔ ((k : ℕ) → get_or text k 0 ≡ newline → ⊥)
   pub local : (text more : List ℕ) → line_length text < length text → call_line (text ++ more) ≡ call_line text
   -- a call's line, and where it ends
-  pub heard_back : (c : Call) (rest : List ℕ) → FitsCall c → call_line (line_text (call_bytes c) ++ rest) ≡ Ended (heard.Call c) (length (line_text (call_bytes c)))
+  pub heard_back : (c : Call) (rest : List ℕ) → FitsCall c → call_line (line_text (call_bytes c) ++ rest) ≡ Some (record { heard = Some c; end = length (line_text (call_bytes c)) })
   -- an answer has seven bytes, so its line is fifteen long
   pub seven : (a : Answer) → length (bytes_of a) ≡ 7
   pub fifteen : (a : Answer) → length (line_text (bytes_of a)) ≡ 15

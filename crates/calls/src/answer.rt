@@ -5,26 +5,14 @@ ghost use Rattle.calls.specs.Answers.{code_of, number_of};
 use bits::Bits64;
 use meaning::SubjectVector;
 
-// The CPU that is kicked: the target's, when a handled event says so.
-#[derive(Clone, Copy, Drop)]
-pub enum Kick {
-    Nobody,
-    Cpu(u8),
-}
-
-#[derive(Clone, Copy, Drop)]
-pub enum Injected {
-    Nothing,
-    Vector(SubjectVector),
-}
-
 // What an answer tells of the call, beside whom it enters: bits 1 and 4, and the kick.
 #[derive(Clone, Copy, Drop)]
 pub struct Notes {
     pub advance: bool,
     // This tick opened a major frame.
     pub new_frame: bool,
-    pub kick: Kick,
+    // The CPU that is kicked: the target's, when a handled event says so.
+    pub kick: Option<u8>,
 }
 
 // Why nobody is entered on any CPU any more.
@@ -58,7 +46,7 @@ pub enum Answer {
     Enter {
         subject: u8,
         left: u16,
-        injected: Injected,
+        injected: Option<SubjectVector>,
         reset: bool,
         notes: Notes,
     },

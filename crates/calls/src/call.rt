@@ -10,11 +10,3 @@ pub enum Call {
     Report { partition: u8 },
     Masks,
 }
-
-// What a line of calls is heard as.
-#[derive(Clone, Copy, Drop)]
-pub enum Heard {
-    Call(Call),
-    // Ill formed, of an unknown kind or of the wrong length.
-    IllFormed,
-}

@@ -3,7 +3,7 @@ ghost use Rattle.std.specs.Prelude.{◌≡◌, ◌∷◌, [], ◌≤◌, length,
 ghost use Rattle.hexline.specs.Lines.{spelled};
 ghost use Rattle.calls.specs.Calls.{heard_in, call_line, heard_of};
 
-use crate::call::{Call, Heard};
+use crate::call::Call;
 use hexline::{Line, byte_at, read_line};
 
 // The kinds of call, as byte 0 of a line has them: 10 to 16 in hexadecimal.
@@ -21,72 +21,72 @@ const REPORT: u8 = 21;
 
 const MASKS: u8 = 22;
 
-// What the text of calls begins with.
+// A line of the text of calls, with its newline.
 #[derive(Clone, Copy, Drop)]
-pub enum CallLine {
-    // A line with its newline: what it is heard as, and where it ends, past its newline.
-    Ended { heard: Heard, end: usize },
-    // No newline in what is there.
-    Unended,
+pub struct CallLine {
+    // None where it is ill formed, of an unknown kind or of the wrong length.
+    pub heard: Option<Call>,
+    // Where it ends, past its newline.
+    pub end: usize,
 }
 
 // A line of one byte.
-fn heard_bare(kind: u8) -> Heard
+fn heard_bare(kind: u8) -> Option<Call>
     ensures { result ≡ heard_in (kind ∷ []) }
 {
     if kind == MASKS {
-        return Heard::Call(Call::Masks);
+        return Some(Call::Masks);
     }
-    Heard::IllFormed
+    None
 }
 
 // A line of two bytes: a kind and the number that it asks for.
-fn heard_number(kind: u8, number: u8) -> Heard
+fn heard_number(kind: u8, number: u8) -> Option<Call>
     ensures { result ≡ heard_in (kind ∷ number ∷ []) }
 {
     match kind {
-        CHOOSE => Heard::Call(Call::Choose { major: number }),
-        REPORT => Heard::Call(Call::Report { partition: number }),
-        _ => Heard::IllFormed, // a tick without its flag too
+        CHOOSE => Some(Call::Choose { major: number }),
+        REPORT => Some(Call::Report { partition: number }),
+        _ => None, // a tick without its flag too
     }
 }
 
 // A line of three bytes.
-fn heard_tick(kind: u8, cpu: u8, flag: u8) -> Heard
+fn heard_tick(kind: u8, cpu: u8, flag: u8) -> Option<Call>
     ensures { result ≡ heard_in (kind ∷ cpu ∷ flag ∷ []) }
 {
     if kind == TICK {
-        return Heard::Call(Call::Tick { cpu, flag });
+        return Some(Call::Tick { cpu, flag });
     }
-    Heard::IllFormed
+    None
 }
 
 // A line of four bytes: an exit of a subject on a CPU, and its event, trap or vector.
-fn heard_exit(kind: u8, cpu: u8, number: u8, flag: u8) -> Heard
+fn heard_exit(kind: u8, cpu: u8, number: u8, flag: u8) -> Option<Call>
     ensures { result ≡ heard_in (kind ∷ cpu ∷ number ∷ flag ∷ []) }
 {
     match kind {
-        HYPERCALL => Heard::Call(Call::Hypercall {
+        HYPERCALL => Some(Call::Hypercall {
             cpu,
             event: number,
             flag,
         }),
-        TRAP => Heard::Call(Call::Trap {
+        TRAP => Some(Call::Trap {
             cpu,
             trap: number,
             flag,
         }),
-        INTERRUPT => Heard::Call(Call::Interrupt {
+        INTERRUPT => Some(Call::Interrupt {
             cpu,
             vector: number,
             flag,
         }),
-        _ => Heard::IllFormed,
+        _ => None,
     }
 }
 
 // By the count of bytes of the line that the text begins with.
-fn heard_bytes(text: &[u8], count: usize) -> Heard
+fn heard_bytes(text: &[u8], count: usize) -> Option<Call>
     requires { count ≤ length (spelled text.now) }
     ensures { result ≡ heard_in (take count (spelled text.now)) }
 {
@@ -99,35 +99,32 @@ fn heard_bytes(text: &[u8], count: usize) -> Heard
         2 => heard_number(kind, first),
         3 => heard_tick(kind, first, second),
         4 => heard_exit(kind, first, second, third),
-        _ => Heard::IllFormed,
+        _ => None,
     }
 }
 
-// The line that the text begins with.
-pub fn call_line(text: &[u8]) -> CallLine
+// The line that the text begins with, if there is a newline in what is there.
+pub fn call_line(text: &[u8]) -> Option<CallLine>
     ensures { result ≡ call_line text.now }
 {
     let line = read_line(text);
     match line {
         Line::Whole { bytes, end } => {
             let heard = heard_bytes(text, bytes);
-            CallLine::Ended { heard, end }
+            Some(CallLine { heard, end })
         }
-        Line::IllFormed { end } => CallLine::Ended {
-            heard: Heard::IllFormed,
-            end,
-        },
-        Line::Unended => CallLine::Unended,
+        Line::IllFormed { end } => Some(CallLine { heard: None, end }),
+        Line::Unended => None,
     }
 }
 
 // A line heard by itself: without a newline it is ill formed.
-pub fn hear(line: &[u8]) -> Heard
+pub fn hear(line: &[u8]) -> Option<Call>
     ensures { result ≡ heard_of line.now }
 {
     let ended = call_line(line);
-    let CallLine::Ended { heard, end: _ } = ended else {
-        return Heard::IllFormed;
+    let Some(CallLine { heard, end: _ }) = ended else {
+        return None;
     };
     heard
 }

@@ -9,8 +9,8 @@ pub mod call; // the seven calls
 pub mod hearing; // a call, heard from the part of the text that begins there
 pub mod write; // an answer's bytes, and its line
 
-pub use answer::{Answer, Injected, Kick, Notes, Reason, Refusal};
-pub use call::{Call, Heard};
+pub use answer::{Answer, Notes, Reason, Refusal};
+pub use call::Call;
 pub use hearing::{CallLine, call_line, hear};
 pub use write::{answer_bytes, put_answer};
 

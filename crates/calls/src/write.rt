@@ -3,8 +3,9 @@ ghost use Rattle.std.specs.Prelude.{◌≡◌};
 ghost use Rattle.hexline.specs.Writes.{line_text, lay, after};
 ghost use Rattle.calls.specs.Answers.{vector_of, kick_of, bits_of, bytes_of};
 
-use crate::answer::{Answer, Injected, Kick};
+use crate::answer::Answer;
 use hexline::put_line;
+use meaning::SubjectVector;
 
 // The codes of the answers that are no refusals.
 const ENTER: u8 = 0;
@@ -26,21 +27,21 @@ const MASKS: u8 = 7;
 // FF: no subject, no CPU.
 const NONE: u8 = 255;
 
-fn vector_of(injected: Injected) -> u8
+fn vector_of(injected: Option<SubjectVector>) -> u8
     ensures { result ≡ vector_of injected }
 {
     match injected {
-        Injected::Nothing => 0,
-        Injected::Vector(vector) => vector.0,
+        None => 0,
+        Some(vector) => vector.0,
     }
 }
 
-fn kick_of(kick: Kick) -> u8
+fn kick_of(kick: Option<u8>) -> u8
     ensures { result ≡ kick_of kick }
 {
     match kick {
-        Kick::Nobody => NONE,
-        Kick::Cpu(cpu) => cpu,
+        None => NONE,
+        Some(cpu) => cpu,
     }
 }
 

@@ -1,5 +1,6 @@
 -- Worked lookups, computed by the definitions: document 01's session policy. Each of its lines is accepted, so that the laws speak of it;
 -- what its table says of keys that are listed, of keys that are not, and of keys that no line may have.
+use Rattle.std.specs.Prelude.{Some, None}
 use Prim.Native.Nat.{ℕ}
 use mathlib.Core.Bool.{true}
 use mathlib.Core.List.{List, [], ◌∷◌}
@@ -15,10 +16,7 @@ use Rattle.rows.specs.Lookups.{default_of}
 use Rattle.rows.specs.KeyPlaces.{minor_row, event_row, trap_row, target_row, route_row}
 use Rattle.rules.specs.Said.{said_in, last_kind, line_with, header_line, frames_of, sum_of}
 use Rattle.rules.specs.Rules.{wrong_kind, counts_in_range, partition_in_range, group_in_range, subject_in_range, frame_in_range, event_in_range, trap_in_range, target_in_range, routable, route_in_range, in_range, key_of, before, follows, ninth, out_of_order, all_below, any_below, all_given, has_group, has_subject, all_used, all_framed, complete, incomplete, frame_misplaced, trap_misplaced, has_target, unknown_subject, wrong_irq_line, wrong_handover, half_target, wrong_target, cpu_of_subject, wrong_kick, event_misplaced, misplaced, even, uneven, judged, verdict, Fair}
-use Rattle.meaning.specs.declared.answer.Masking.TheVariants.{Line}
-use Rattle.meaning.specs.declared.answer.Route.TheVariants as route
 use Rattle.meaning.specs.declared.answer.Action.TheVariants as action
-use Rattle.meaning.specs.declared.answer.Signal.TheVariants as signal
 use Rattle.meaning.specs.declared.answer.TargetAction.TheVariants as target
 use Rattle.meaning.specs.Answers.{masking_from, route_from, action_from, signal_from, source_from, target_from, frame_from, no_event, no_frame}
 use Rattle.meaning.specs.Lookups.{route_of, source_event, default_event, trap_event, target_event, frame_at, frames_below, frame_count}
@@ -52,14 +50,14 @@ session_fair =
     (((((((((((((((((tt, refl), refl), refl), refl), refl), refl), refl), refl), refl), refl), refl), refl), refl), refl), refl), refl), refl)
 
 -- `092101400A`: host vector 21 hex; A1 hex, which has the same low bits, goes nowhere
-routes : (route_of (table_of session) (record { 0 = 33 }) ≡ route.To 1 (record { 0 = 64 }) (Line (record { 0 = 10 })))
-    × (route_of (table_of session) (record { 0 = 161 }) ≡ route.Nowhere)
+routes : (route_of (table_of session) (record { 0 = 33 }) ≡ Some (record { subject = 1; vector = (record { 0 = 64 }); line = (Some (record { 0 = 10 })) }))
+    × (route_of (table_of session) (record { 0 = 161 }) ≡ None)
 unfolding session table_of table row_in next_in place_of frames_place row_of route_of route_row route_from masking_from
 routes = (refl, refl)
 
 -- `06000002FFFFFF00`, `06000100FF020501`; event 32 of subject 0 would have the place of event 0 of subject 2
-events : (source_event (table_of session) 0 0 ≡ record { action = action.Yield; signal = signal.Nothing })
-    × ((source_event (table_of session) 0 1 ≡ record { action = action.Nothing; signal = signal.To 2 5 true })
+events : (source_event (table_of session) 0 0 ≡ record { action = action.Yield; signal = None })
+    × ((source_event (table_of session) 0 1 ≡ record { action = action.Nothing; signal = Some (record { subject = 2; event = 5; kick = true }) })
     × (source_event (table_of session) 0 32 ≡ no_event))
 unfolding session table_of table row_in next_in place_of frames_place row_of source_event event_row source_from action_from signal_from
 events = (refl, (refl, refl))

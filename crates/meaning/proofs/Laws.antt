@@ -1,5 +1,6 @@
 -- The policy means its text: each lookup reads the row of a key, the row is that of the line that has the key, and an accepted line says
 -- something (`Spoken`) and loses nothing (`Whole`). The generic laws are `KeyedLaws`, the kinds `KeptKinds`, minor frames `FrameLaws`.
+use Rattle.std.specs.Prelude.{Some, None}
 use mathlib.Core.List.{List}
 use mathlib.Core.Path.{◌≡◌, refl, ap, sym, ◌∙◌}
 use native.Mathlib.Omega.{arith}
@@ -19,7 +20,6 @@ use Rattle.rows.specs.Lookups.{counts_of, given, partition_given, cpu_of, group_
 use Rattle.rows.specs.KeyPlaces.{event_row, trap_row, target_row, route_row}
 use Rattle.rules.specs.Said.{said_in}
 use Rattle.rules.specs.Rules.{Fair}
-use Rattle.meaning.specs.declared.answer.Route.TheVariants.{Nowhere}
 use Rattle.meaning.specs.declared.answer.TargetAction.TheVariants.{Nothing}
 use Rattle.meaning.specs.Answers.{route_from, source_from, target_from, no_event}
 use Rattle.meaning.specs.Lookups.{route_of, source_event, default_event, trap_event, target_event}
@@ -93,10 +93,10 @@ module _ (e : List Record) (f : Fair e) (l : Laid e) where
       target_back
       (λ d g t h. let b = read d g (Target t) h in target_back_lem (said_in b.earlier).counts t b.fine.range)
 
-  routes : Tells Route host_of route_from (λ k. Nowhere) (route_of (table_of e)) e
+  routes : Tells Route host_of (λ w. Some (route_from w)) (λ k. None) (route_of (table_of e)) e
   unfolding route_of route_row row_for
   routes =
-      tells Route host_of route_may route_place route_built kept_route e f l route_from (λ k. Nowhere) (route_of (table_of e))
+      tells Route host_of route_may route_place route_built kept_route e f l (λ w. Some (route_from w)) (λ k. None) (route_of (table_of e))
       (λ k. refl) (λ w h. route_spoken w) route_back (λ d g w h. route_back_lem w)
 
   means : Means e

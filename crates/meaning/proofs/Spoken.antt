@@ -1,5 +1,6 @@
 -- An accepted line says something: what it says is never what is said of a key without a line. By the rules of document 01 on ranges
 -- (08), on targets (06: "action 0 without" one is misplaced) and on traps (07: "a trap line equal to the default" is).
+use Rattle.std.specs.Prelude.{Option, Some, None}
 use Prim.Native.Nat.{ℕ, suc, ◌≤◌}
 use mathlib.Core.Bool.{Bool, true, false, cond, not, ◌&&◌, ◌||◌}
 use mathlib.Core.List.{List, [], ◌∷◌}
@@ -24,11 +25,9 @@ use Rattle.rules.specs.Said.{Said, said_in, line_with, some}
 use Rattle.rules.specs.Rules.{none, in_range, event_in_range, target_in_range, misplaced, has_target, unknown_subject, wrong_irq_line, wrong_handover, half_target, wrong_target, event_misplaced, trap_misplaced, Fair}
 use Rattle.rules.proofs.Fine.{Fine, fine, counts_fit, fits_of}
 use Rattle.meaning.specs.declared.answer.SubjectVector.{SubjectVector}
-use Rattle.meaning.specs.declared.answer.Route.TheVariants.{Nowhere}
 use Rattle.meaning.specs.declared.answer.Action.{Action}
 use Rattle.meaning.specs.declared.answer.Action.TheVariants as action
 use Rattle.meaning.specs.declared.answer.Signal.{Signal}
-use Rattle.meaning.specs.declared.answer.Signal.TheVariants as signal
 use Rattle.meaning.specs.declared.answer.SourceEvent.{SourceEvent}
 use Rattle.meaning.specs.declared.answer.TargetAction.TheVariants as target
 use Rattle.meaning.specs.Answers.{route_from, action_from, signal_from, source_from, target_from, no_event}
@@ -57,7 +56,7 @@ fits_among e f r h k =
 
 -- ---- 09
 
-pub route_spoken : (w : RouteLine) → route_from w ≡ Nowhere → ⊥
+pub route_spoken : (w : RouteLine) → Some (route_from w) ≡ None → ⊥
 unfolding route_from
 route_spoken w q = let z : ◌≡◌ {A = ℕ} 0 1 = cc in omega arith
 
@@ -103,10 +102,10 @@ idle n irq s l =
     P : Action → Type 0
     P x = x ≡ action.Nothing → n ≡ 0
 
-signalled : (s event kick : ℕ) → eqb event none ≡ false → signal_from s event kick ≡ signal.Nothing → ⊥
+signalled : (s event kick : ℕ) → eqb event none ≡ false → signal_from s event kick ≡ None → ⊥
 unfolding signal_from
 signalled s event kick t =
-    by_cond (λ (x : Signal). x ≡ signal.Nothing → ⊥) (eqb event none) _ _
+    by_cond (λ (x : Option Signal). x ≡ None → ⊥) (eqb event none) _ _
     (λ u q. let z : ◌≡◌ {A = ℕ} 0 1 = cc in omega arith) (λ u q. let z : ◌≡◌ {A = ℕ} 0 1 = cc in omega arith)
 
 -- action 0 has a target, and with it a target event

@@ -1,6 +1,8 @@
 -- Nothing of an accepted line is lost in what it says: the line is read back off its key and what it says. For 06 by the rules on
 -- misplaced lines: an IRQ line is there exactly for unmasking, a target subject without target event only for handover, and no
 -- kick without a target event, since a handover stays in its group and so on its CPU.
+use Rattle.std.specs.Prelude.{Option, Some, None}
+use Rattle.meaning.specs.declared.answer.IrqLine.{IrqLine}
 use Prim.Native.Nat.{ℕ, zero, suc, ◌≤◌}
 use mathlib.Core.Bool.{Bool, true, false, cond, not, ◌&&◌, ◌||◌}
 use mathlib.Core.Logic.{◌⊎◌, inl, inr}
@@ -18,14 +20,10 @@ use Rattle.records.specs.declared.kind.Record.TheVariants.{Event, Target}
 use Rattle.rules.specs.Said.{Said}
 use Rattle.rules.specs.Rules.{in_range, event_in_range, target_in_range, misplaced, has_target, unknown_subject, wrong_irq_line, wrong_handover, half_target, wrong_target, cpu_of_subject, wrong_kick, event_misplaced}
 use Rattle.meaning.specs.declared.answer.HostVector.{HostVector}
-use Rattle.meaning.specs.declared.answer.Masking.{Masking}
-use Rattle.meaning.specs.declared.answer.Masking.TheVariants.{NoLine, Line}
 use Rattle.meaning.specs.declared.answer.Route as route
-use Rattle.meaning.specs.declared.answer.Route.TheVariants.{Nowhere, To}
 use Rattle.meaning.specs.declared.answer.Action.{Action}
 use Rattle.meaning.specs.declared.answer.Action.TheVariants as action
 use Rattle.meaning.specs.declared.answer.Signal.{Signal}
-use Rattle.meaning.specs.declared.answer.Signal.TheVariants as signal
 use Rattle.meaning.specs.declared.answer.SourceEvent.{SourceEvent}
 use Rattle.meaning.specs.declared.answer.TargetAction.{TargetAction}
 use Rattle.meaning.specs.declared.answer.TargetAction.TheVariants as target
@@ -35,19 +33,19 @@ use Rattle.meaning.proofs.Spoken.{neither_of}
 
 -- ---- 09
 
-unfoldable pub irq_of : Masking → ℕ
-irq_of NoLine = 255
-irq_of (Line l) = l.0
+unfoldable pub irq_of : Option IrqLine → ℕ
+irq_of None = 255
+irq_of (Some l) = l.0
 
 masking_back : (irq : ℕ) → irq_of (masking_from irq) ≡ irq
 unfolding masking_from irq_of
-masking_back irq = by_cond (λ (x : Masking). irq_of x ≡ irq) (eqb irq 255) _ _ (λ t. sym (eqb-true irq 255 t)) (λ t. refl)
+masking_back irq = by_cond (λ (x : Option IrqLine). irq_of x ≡ irq) (eqb irq 255) _ _ (λ t. sym (eqb-true irq 255 t)) (λ t. refl)
 
-unfoldable pub route_back : HostVector → route.Route → RouteLine
-route_back k Nowhere = record { host = k.0; subject = 0; vector = 0; irq = 0 }
-route_back k (To s v l) = record { host = k.0; subject = s; vector = v.0; irq = irq_of l }
+unfoldable pub route_back : HostVector → Option route.Route → RouteLine
+route_back k None = record { host = k.0; subject = 0; vector = 0; irq = 0 }
+route_back k (Some route) = record { host = k.0; subject = route.subject; vector = route.vector.0; irq = irq_of route.line }
 
-pub route_back_lem : (w : RouteLine) → route_back (host_of w) (route_from w) ≡ w
+pub route_back_lem : (w : RouteLine) → route_back (host_of w) (Some (route_from w)) ≡ w
 unfolding route_back route_from
 route_back_lem w = rw (masking_back w.irq)
 
@@ -119,17 +117,17 @@ target_of action.Reboot other = other
 target_of action.PowerOff other = other
 target_of action.Panic other = other
 
-unfoldable pub signal_subject : Signal → ℕ
-signal_subject signal.Nothing = 255
-signal_subject (signal.To s event kick) = s
+unfoldable pub signal_subject : Option Signal → ℕ
+signal_subject None = 255
+signal_subject (Some signal) = signal.subject
 
-unfoldable pub signal_event : Signal → ℕ
-signal_event signal.Nothing = 255
-signal_event (signal.To s event kick) = event
+unfoldable pub signal_event : Option Signal → ℕ
+signal_event None = 255
+signal_event (Some signal) = signal.event
 
-unfoldable pub signal_kick : Signal → ℕ
-signal_kick signal.Nothing = 0
-signal_kick (signal.To s event kick) = cond kick 1 0
+unfoldable pub signal_kick : Option Signal → ℕ
+signal_kick None = 0
+signal_kick (Some signal) = cond signal.kick 1 0
 
 unfoldable pub event_back : ℕ × ℕ → SourceEvent → EventLine
 event_back k x =
@@ -173,7 +171,7 @@ whole_target : (s event kick : ℕ) → cond (not (eqb s 255)) (eqb event 255) (
 unfolding signal_subject signal_from
 whole_target s event kick = go (eqb s 255) (eqb event 255) _ refl
   where
-    go : (h t b : Bool) → eqb s 255 ≡ h → cond (not h) t (not t) ≡ false → signal_subject (cond t signal.Nothing (signal.To s event b)) ≡ s
+    go : (h t b : Bool) → eqb s 255 ≡ h → cond (not h) t (not t) ≡ false → signal_subject (cond t None (Some (record { subject = s; event = event; kick = b }))) ≡ s
     go true true b p q = sym (eqb-true s 255 p)
     go true false b p q = refl
     go false true b p q = let z : ◌≡◌ {A = ℕ} 0 1 = cc in absurd (omega arith)
@@ -188,12 +186,12 @@ target_of_lem irq s event kick =
 
 event_of : (s event kick : ℕ) → signal_event (signal_from s event kick) ≡ event
 unfolding signal_event signal_from
-event_of s event kick = by_cond (λ (x : Signal). signal_event x ≡ event) (eqb event 255) _ _ (λ t. sym (eqb-true event 255 t)) (λ t. refl)
+event_of s event kick = by_cond (λ (x : Option Signal). signal_event x ≡ event) (eqb event 255) _ _ (λ t. sym (eqb-true event 255 t)) (λ t. refl)
 
 kick_of_lem : (s event kick : ℕ) → kick ≤ 1 → (eqb event 255 ≡ true → kick ≡ 1 → ⊥) → signal_kick (signal_from s event kick) ≡ kick
 unfolding signal_kick signal_from
 kick_of_lem s event kick l d =
-    by_cond (λ (x : Signal). signal_kick x ≡ kick) (eqb event 255) _ _
+    by_cond (λ (x : Option Signal). signal_kick x ≡ kick) (eqb event 255) _ _
     (λ t. let z = d t in omega arith)
     (λ t. by_cond (λ (n : ℕ). n ≡ kick) (eqb kick 1) _ _ (λ u. sym (eqb-true kick 1 u)) (λ u. let z = eqb-false kick 1 u in omega arith))
 

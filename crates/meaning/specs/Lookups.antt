@@ -1,20 +1,19 @@
 -- What a table says of a host vector, a source event, a trap, a target event and a minor frame: what the line of the key says, where the
 -- key has a row. `Means.antt` has that this is what a line of the text says.
-use Rattle.std.specs.Prelude.{ℕ, zero, suc, ◌+◌, cond, List, ltb, eqb}
+use Rattle.std.specs.Prelude.{ℕ, zero, suc, ◌+◌, cond, List, ltb, eqb, Option, Some, None}
 use Rattle.rows.specs.Lookups.{default_of}
 use Rattle.rows.specs.KeyPlaces.{minor_row, keyed_minor, event_row, keyed_event, trap_row, keyed_trap, target_row, keyed_target, route_row, keyed_route}
 use Rattle.meaning.specs.declared.answer.HostVector.{HostVector}
 use Rattle.meaning.specs.declared.answer.Route.{Route}
-use Rattle.meaning.specs.declared.answer.Route.TheVariants.{Nowhere}
 use Rattle.meaning.specs.declared.answer.SourceEvent.{SourceEvent}
 use Rattle.meaning.specs.declared.answer.TargetAction.{TargetAction}
 use Rattle.meaning.specs.declared.answer.TargetAction.TheVariants.{Nothing}
 use Rattle.meaning.specs.declared.answer.Frame.{Frame}
 use Rattle.meaning.specs.Answers.{route_from, source_from, target_from, frame_from, no_event, no_frame}
 
-unfoldable pub route_of : List ℕ → HostVector → Route
+unfoldable pub route_of : List ℕ → HostVector → Option Route
 route_of rows host =
-    cond (eqb (route_row rows host.0) 0) Nowhere (route_from (keyed_route host.0 (route_row rows host.0)))
+    cond (eqb (route_row rows host.0) 0) None (Some (route_from (keyed_route host.0 (route_row rows host.0))))
 
 unfoldable pub source_event : List ℕ → ℕ → ℕ → SourceEvent
 source_event rows subject event =

@@ -1,7 +1,7 @@
 -- The policy means its text: for lines that were each accepted when they were read, and the table that they give, each lookup says exactly
 -- what a line says. At the key of a line it says what that line says; it says nothing exactly at the keys that no line has. So no
 -- lookup goes by a part of a number, takes another kind's line, or invents one. Lines come latest first.
-use Rattle.std.specs.Prelude.{ℕ, ◌<◌, true, cond, ◌&&◌, List, [], ◌∷◌, ◌++◌, ◌⊎◌, ◌↔◌, ◌≡◌, eqb, length, get_or}
+use Rattle.std.specs.Prelude.{ℕ, ◌<◌, true, cond, ◌&&◌, List, [], ◌∷◌, ◌++◌, ◌⊎◌, ◌↔◌, ◌≡◌, eqb, length, get_or, Some, None}
 use Rattle.records.specs.declared.kind.Counts.{Counts}
 use Rattle.records.specs.declared.kind.PartitionLine.{PartitionLine}
 use Rattle.records.specs.declared.kind.GroupLine.{GroupLine}
@@ -16,7 +16,6 @@ use Rattle.rows.specs.Lines.{table_of}
 use Rattle.rows.specs.Lookups.{counts_of, partition_given, cpu_of, group_given, partition_of, subject_given, group_of, default_of}
 use Rattle.rules.specs.Rules.{Fair}
 use Rattle.meaning.specs.declared.answer.HostVector.{HostVector}
-use Rattle.meaning.specs.declared.answer.Route.TheVariants.{Nowhere}
 use Rattle.meaning.specs.declared.answer.TargetAction.TheVariants.{Nothing}
 use Rattle.meaning.specs.declared.answer.Frame as minor
 use Rattle.meaning.specs.Answers.{route_from, source_from, target_from, frame_from, no_event, no_frame}
@@ -121,7 +120,7 @@ pub record Means (e : List Record) : Type 0 where
   -- "its line's event, or the default"
   pub traps : Tells Trap trap_key (λ t. t.event) (λ k. default_event (table_of e) k.0) (λ k. trap_event (table_of e) k.0 k.1) e
   pub targets : Tells Target target_key target_from (λ k. Nothing) (λ k. target_event (table_of e) k.0 k.1) e
-  pub routes : Tells Route host_of route_from (λ k. Nowhere) (route_of (table_of e)) e
+  pub routes : Tells Route host_of (λ w. Some (route_from w)) (λ k. None) (route_of (table_of e)) e
 
 pub record Lawful : Type 0 where
   pub means : (e : List Record) → Fair e → Means e

@@ -8,22 +8,12 @@ pub struct SubjectVector(pub u8);
 #[derive(Clone, Copy, Drop)]
 pub struct IrqLine(pub u8);
 
-// The IRQ line that an interrupt masks, if it has one.
+// Where a host vector goes, and the IRQ line that it masks, if it has one.
 #[derive(Clone, Copy, Drop)]
-pub enum Masking {
-    NoLine,
-    Line(IrqLine),
-}
-
-// Where a host vector goes.
-#[derive(Clone, Copy, Drop)]
-pub enum Route {
-    Nowhere,
-    To {
-        subject: u8,
-        vector: SubjectVector,
-        line: Masking,
-    },
+pub struct Route {
+    pub subject: u8,
+    pub vector: SubjectVector,
+    pub line: Option<IrqLine>,
 }
 
 #[derive(Clone, Copy, Drop)]
@@ -39,17 +29,18 @@ pub enum Action {
     Panic,
 }
 
-// The target event, if there is one.
+// A target event of a subject, and whether its CPU is kicked.
 #[derive(Clone, Copy, Drop)]
-pub enum Signal {
-    Nothing,
-    To { subject: u8, event: u8, kick: bool },
+pub struct Signal {
+    pub subject: u8,
+    pub event: u8,
+    pub kick: bool,
 }
 
 #[derive(Clone, Copy, Drop)]
 pub struct SourceEvent {
     pub action: Action,
-    pub signal: Signal,
+    pub signal: Option<Signal>,
 }
 
 #[derive(Clone, Copy, Drop)]

@@ -3,7 +3,7 @@ ghost use Rattle.std.specs.Prelude.{◌≡◌};
 ghost use Rattle.meaning.specs.Answers.{masking_from, route_from, action_from, signal_from, source_from, target_from, frame_from};
 
 use crate::answer::{
-    Action, Frame, IrqLine, Masking, Route, Signal, SourceEvent, SubjectVector, TargetAction,
+    Action, Frame, IrqLine, Route, Signal, SourceEvent, SubjectVector, TargetAction,
 };
 use records::{EventLine, FrameLine, RouteLine, TargetLine};
 
@@ -30,13 +30,13 @@ const INJECT: u8 = 1;
 
 const RESET: u8 = 2;
 
-fn masking_from(irq: u8) -> Masking
+fn masking_from(irq: u8) -> Option<IrqLine>
     ensures { result ≡ masking_from irq }
 {
     if irq == NONE {
-        return Masking::NoLine;
+        return None;
     }
-    Masking::Line(IrqLine(irq))
+    Some(IrqLine(irq))
 }
 
 // A 09 line.
@@ -45,7 +45,7 @@ pub(crate) fn route_from(w: RouteLine) -> Route
 {
     let line = masking_from(w.irq);
     let vector = SubjectVector(w.vector);
-    Route::To {
+    Route {
         subject: w.subject,
         vector,
         line,
@@ -67,17 +67,17 @@ fn action_from(action: u8, irq: u8, target: u8) -> Action
     }
 }
 
-fn signal_from(target: u8, event: u8, kick: u8) -> Signal
+fn signal_from(target: u8, event: u8, kick: u8) -> Option<Signal>
     ensures { result ≡ signal_from target event kick }
 {
     if event == NONE {
-        return Signal::Nothing;
+        return None;
     }
-    Signal::To {
+    Some(Signal {
         subject: target,
         event,
         kick: kick == 1,
-    }
+    })
 }
 
 // A 06 line.

@@ -3,7 +3,7 @@
 ghost use Rattle.std.specs.Prelude.{◌≡◌, cond, eqb};
 ghost use Rattle.meaning.specs.Lookups.{route_of, source_event, default_event, trap_event, target_event, frame_at, frame_count};
 
-use crate::answer::{Action, Frame, HostVector, Route, Signal, SourceEvent, TargetAction};
+use crate::answer::{Action, Frame, HostVector, Route, SourceEvent, TargetAction};
 use crate::line::{frame_from, route_from, source_from, target_from};
 use rows::{
     MINOR_KEYS, SUBJECT_KEYS, default_of, event_row, keyed_event, keyed_minor, keyed_route,
@@ -11,16 +11,16 @@ use rows::{
 };
 
 // Where a host vector goes.
-pub fn route_of(rows: &[u64], host: HostVector) -> Route
+pub fn route_of(rows: &[u64], host: HostVector) -> Option<Route>
     ensures { result ≡ route_of rows.now host }
 {
     let vector = host.0;
     let row = route_row(rows, vector);
     if row == 0 {
-        return Route::Nowhere;
+        return None;
     }
     let line = keyed_route(vector, row);
-    route_from(line)
+    Some(route_from(line))
 }
 
 // What a source event of a subject does.
@@ -29,9 +29,10 @@ pub fn source_event(rows: &[u64], subject: u8, event: u8) -> SourceEvent
 {
     let row = event_row(rows, subject, event);
     if row == 0 {
-        let action = Action::Nothing;
-        let signal = Signal::Nothing;
-        return SourceEvent { action, signal };
+        return SourceEvent {
+            action: Action::Nothing,
+            signal: None,
+        };
     }
     let line = keyed_event(subject, event, row);
     source_from(line)

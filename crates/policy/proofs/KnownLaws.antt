@@ -1,5 +1,6 @@
 -- Whether a policy's own text gives it, found without the text: its lines are judged as they are read off the table, place by place.
 -- `Knowing` is what that loop keeps: what is left to judge gives what the whole gives.
+use Rattle.std.specs.Prelude.{Ok, Err}
 use Prim.Native.Nat.{ℕ, zero, suc, ◌+◌, ◌-◌, ◌≤◌, ◌<◌}
 use mathlib.Core.Bool.{false}
 use mathlib.Core.List.{List, [], ◌∷◌, ◌++◌, append_assoc, append-nil}
@@ -15,7 +16,6 @@ use Rattle.rows.specs.Places.{row_count, place_of}
 use Rattle.rows.specs.Rows.{row_of, record_at}
 use Rattle.rows.specs.Lines.{table_of, line_at, lines_below, lines_in}
 use Rattle.rules.specs.declared.refusal.Refusal.{Refusal}
-use Rattle.rules.specs.declared.refusal.Verdict.TheVariants.{Accepted, Refused}
 use Rattle.rules.specs.Said.{last_kind}
 use Rattle.rules.specs.Rules.{judged, verdict}
 use Rattle.rules.specs.Tables.{said_by, behind}
@@ -99,7 +99,7 @@ module _ (given rows : List ℕ) (kind next lines i : ℕ) (g : Knowing given ro
   pub by_table : (line : ℕ) (r : Record) → line ≡ lines + 1 → judged (said_by rows) kind lines line (behind next r) r ≡ verdict g.earlier r
   by_table line r q = tied_verdict rows kind next lines line g.earlier g.tied q r
 
-  pub place_fits : (r : Record) → verdict g.earlier r ≡ Accepted → place_of next r ≤ row_count
+  pub place_fits : (r : Record) → verdict g.earlier r ≡ Ok tt → place_of next r ≤ row_count
   place_fits r v = rw g.tied.next (place_within g.earlier r g.tied.fair v)
 
   module _ (l : i < row_count) where
@@ -121,12 +121,12 @@ module _ (given rows : List ℕ) (kind next lines i : ℕ) (g : Knowing given ro
       unfolding judge_all
       rest_is = g.rest ∙ ap (judge_all g.earlier) (left_step given i l ∙ ap (λ (x : List Record). x ++ left given (suc i)) (line_one given i d))
 
-      pub knowing_refused : (why : Refusal) → verdict g.earlier (record_at i (get_or given i 0)) ≡ Refused why → known_rows given ≡ false
+      pub knowing_refused : (why : Refusal) → verdict g.earlier (record_at i (get_or given i 0)) ≡ Err why → known_rows given ≡ false
       unfolding onward
       knowing_refused why v =
           known_by given ∙ ap (λ (x : Reading). gives x (record { rows = given })) (rest_is ∙ rw v) ∙ refused_gives why (record { rows = given })
 
-      pub knowing_on : verdict g.earlier (record_at i (get_or given i 0)) ≡ Accepted
+      pub knowing_on : verdict g.earlier (record_at i (get_or given i 0)) ≡ Ok tt
           → Knowing given (set rows (place_of next (record_at i (get_or given i 0))) (row_of (record_at i (get_or given i 0)))) (kind_of (record_at i (get_or given i 0)))
           (place_of next (record_at i (get_or given i 0)) + 1) (lines + 1) (i + 1)
       unfolding onward lines_below
@@ -152,15 +152,15 @@ module _ (given rows : List ℕ) (kind next lines i : ℕ) (g : Knowing given ro
         let none : row_count - i ≡ 0 = omega arith in
         g.rest ∙ ap₂ (λ (k : ℕ) (c : ℕ). judge_all g.earlier (lines_from given i k ++ (End c ∷ []))) none n
 
-    pub end_refused : (why : Refusal) → verdict g.earlier (End lines) ≡ Refused why → known_rows given ≡ false
+    pub end_refused : (why : Refusal) → verdict g.earlier (End lines) ≡ Err why → known_rows given ≡ false
     unfolding onward
     end_refused why v =
         known_by given ∙ ap (λ (x : Reading). gives x (record { rows = given })) (ended ∙ rw v) ∙ refused_gives why (record { rows = given })
 
-    pub end_accepted : verdict g.earlier (End lines) ≡ Accepted → known_rows given ≡ same_numbers rows given
+    pub end_accepted : verdict g.earlier (End lines) ≡ Ok tt → known_rows given ≡ same_numbers rows given
     unfolding onward judge_all at_end policy_of gives acceptance last_kind kind_of
     end_accepted v =
-        let q : judge_all [] (all_lines given) ≡ record { verdict = Accepted; policy = record { rows = table_of (End lines ∷ g.earlier) } } = ended ∙ rw v in
+        let q : judge_all [] (all_lines given) ≡ record { verdict = Ok tt; policy = record { rows = table_of (End lines ∷ g.earlier) } } = ended ∙ rw v in
         known_by given
         ∙ ap (λ (x : Reading). gives x (record { rows = given })) q
         ∙ ap (λ (t : List ℕ). same_numbers t given) (end_table g.earlier lines ∙ sym (tied_table rows kind next lines g.earlier g.tied))

@@ -1,5 +1,8 @@
 -- A text and its lines: the text of lines is read as these lines one after the other, and a text that is accepted is the text of lines,
 -- each accepted in its turn. By the line codec of crate records, line by line.
+use Rattle.std.specs.Prelude.{Result, Ok, Err}
+use Rattle.records.specs.declared.read.NoRecord.TheVariants.{IllFormed as IllFormedLine, WrongKind as WrongKindLine}
+use Rattle.records.specs.declared.read.NoRecord.{NoRecord}
 use Prim.Native.Nat.{ℕ, zero, suc, ◌+◌, ◌≤◌, ◌<◌}
 use mathlib.Core.List.{List, [], ◌∷◌, ◌++◌, append_assoc, append-nil}
 use mathlib.Core.Path.{◌≡◌, refl, ap, sym, ◌∙◌}
@@ -12,15 +15,11 @@ use Rattle.hexline.specs.Writes.{line_text}
 use Rattle.hexline.proofs.Cond.{by_cond}
 use Rattle.hexline.proofs.ByteLaws.{text_length}
 use Rattle.records.specs.declared.kind.Record.{Record}
-use Rattle.records.specs.declared.read.RecordLine.{RecordLine}
-use Rattle.records.specs.declared.read.RecordLine.TheVariants.{Got, IllFormed as IllFormedLine, WrongKind as WrongKindLine}
 use Rattle.records.specs.Kinds.{bytes_of, Sound}
 use Rattle.records.specs.RecordLines.{record_line}
 use Rattle.records.proofs.LineLaws.{got, read_back}
 use Rattle.rows.specs.Lines.{in_order}
 use Rattle.rules.specs.declared.refusal.Refusal.{Refusal}
-use Rattle.rules.specs.declared.refusal.Verdict.{Verdict}
-use Rattle.rules.specs.declared.refusal.Verdict.TheVariants.{Accepted, Refused}
 use Rattle.rules.specs.Said.{last_kind}
 use Rattle.rules.specs.Rules.{verdict, Fair}
 use Rattle.policy.specs.declared.value.Policy.{Policy}
@@ -58,17 +57,17 @@ texts_read (r ∷ lines) e s =
 pub not_both : (why : Refusal) (p : Policy) → refusal why ≡ acceptance p → ⊥
 unfolding refusal acceptance
 not_both why p q =
-    let v : Refused why ≡ Accepted = ap (λ (x : Reading). x.verdict) q in
+    let v : Err why ≡ Ok tt = ap (λ (x : Reading). x.verdict) q in
     let z : ◌≡◌ {A = ℕ} 0 1 = cc in
     omega arith
 
 -- what comes after an accepted line
-pub onward_accepted : (v : Verdict) (rest : Reading) (p : Policy) → onward v rest ≡ acceptance p → (v ≡ Accepted) × (rest ≡ acceptance p)
+pub onward_accepted : (v : Result Unit Refusal) (rest : Reading) (p : Policy) → onward v rest ≡ acceptance p → (v ≡ Ok tt) × (rest ≡ acceptance p)
 unfolding onward
-onward_accepted Accepted rest p q = (refl, q)
-onward_accepted (Refused why) rest p q = absurd (not_both why p q)
+onward_accepted (Ok done) rest p q = (refl, q)
+onward_accepted (Err why) rest p q = absurd (not_both why p q)
 
-pub onward_takes : (v : Verdict) (rest : Reading) → v ≡ Accepted → onward v rest ≡ rest
+pub onward_takes : (v : Result Unit Refusal) (rest : Reading) → v ≡ Ok tt → onward v rest ≡ rest
 unfolding onward
 onward_takes v rest q = rw q
 
@@ -79,11 +78,11 @@ pub record Written (text : List ℕ) (e : List Record) (p : Policy) : Type 0 whe
   pub spelled : text ≡ texts_of lines
   pub judged : judge_all e lines ≡ acceptance p
 
-no_record_refused : (l : RecordLine) (n : ℕ) (p : Policy) → no_record l n ≡ acceptance p → ⊥
+no_record_refused : (l : Result (Record × ℕ) NoRecord) (n : ℕ) (p : Policy) → no_record l n ≡ acceptance p → ⊥
 unfolding no_record
-no_record_refused (Got r end) n p q = not_both _ p q
-no_record_refused IllFormedLine n p q = not_both _ p q
-no_record_refused WrongKindLine n p q = not_both _ p q
+no_record_refused (Ok (r, end)) n p q = not_both _ p q
+no_record_refused (Err IllFormedLine) n p q = not_both _ p q
+no_record_refused (Err WrongKindLine) n p q = not_both _ p q
 
 written_up_to : (n : ℕ) (text : List ℕ) (e : List Record) (p : Policy) → length text ≤ n → judge e (lines_of text) ≡ acceptance p → Written text e p
 unfolding texts_of judge_all
@@ -92,8 +91,8 @@ written_up_to zero (b ∷ text) e p l q = absurd (omega arith)
 written_up_to (suc n) [] e p l q = record { lines = []; spelled = refl; judged = sym (judge_none e) ∙ q }
 written_up_to (suc n) (b ∷ text) e p l q = go (record_line (b ∷ text)) refl (λ s d. written_up_to n s d p)
   where
-    go : (line : RecordLine) → record_line (b ∷ text) ≡ line → ((s : List ℕ) (d : List Record) → length s ≤ n → judge d (lines_of s) ≡ acceptance p → Written s d p) → Written (b ∷ text) e p
-    go (Got r end) k ih =
+    go : (line : Result (Record × ℕ) NoRecord) → record_line (b ∷ text) ≡ line → ((s : List ℕ) (d : List Record) → length s ≤ n → judge d (lines_of s) ≡ acceptance p → Written s d p) → Written (b ∷ text) e p
+    go (Ok (r, end)) k ih =
         let w = got (b ∷ text) r end k in
         let a = onward_accepted (verdict e r) _ p (sym (judge_got e (b ∷ text) (omega arith) r end k) ∙ q) in
         let rest = ih (drop end (b ∷ text)) (r ∷ e) (rw (length-drop end (b ∷ text)) (omega (arith, w.some))) a.1 in
@@ -102,8 +101,8 @@ written_up_to (suc n) (b ∷ text) e p l q = go (record_line (b ∷ text)) refl 
           spelled = w.written ∙ ap (λ (s : List ℕ). line_text (bytes_of r) ++ s) rest.spelled;
           judged = onward_takes (verdict e r) (judge_all (r ∷ e) rest.lines) a.0 ∙ rest.judged;
         }
-    go IllFormedLine k ih = absurd (no_record_refused IllFormedLine (length e + 1) p (sym (judge_ill_formed e (b ∷ text) (omega arith) k) ∙ q))
-    go WrongKindLine k ih = absurd (no_record_refused WrongKindLine (length e + 1) p (sym (judge_wrong_kind e (b ∷ text) (omega arith) k) ∙ q))
+    go (Err IllFormedLine) k ih = absurd (no_record_refused (Err IllFormedLine) (length e + 1) p (sym (judge_ill_formed e (b ∷ text) (omega arith) k) ∙ q))
+    go (Err WrongKindLine) k ih = absurd (no_record_refused (Err WrongKindLine) (length e + 1) p (sym (judge_wrong_kind e (b ∷ text) (omega arith) k) ∙ q))
 
 -- ---- lines that are accepted one after the other
 
@@ -152,15 +151,15 @@ pub accepted_written : (text : List ℕ) (p : Policy) → read_of text ≡ accep
 accepted_written text p q = written_up_to (length text) text [] p (omega arith) (accepted_judge text p q)
 
 -- an accepted text's records are accepted one after the other, and give the policy
-judged_lines : (lines : List RecordLine) (e : List Record) (p : Policy) → Fair e → judge e lines ≡ acceptance p → Judged (records_in lines) e p
+judged_lines : (lines : List (Result (Record × ℕ) NoRecord)) (e : List Record) (p : Policy) → Fair e → judge e lines ≡ acceptance p → Judged (records_in lines) e p
 unfolding judge records_in onto Fair
 judged_lines [] e p f q = let a = at_end_lem e p q in record { fair = f; ended = a.0; policy = a.1 }
-judged_lines (Got r end ∷ lines) e p f q =
+judged_lines (Ok (r, end) ∷ lines) e p f q =
     let a = onward_accepted (verdict e r) _ p q in
     let j = judged_lines lines (r ∷ e) p (f, a.0) a.1 in
     record { fair = j.fair; ended = j.ended; policy = j.policy }
-judged_lines (IllFormedLine ∷ lines) e p f q = absurd (no_record_refused IllFormedLine (length e + 1) p q)
-judged_lines (WrongKindLine ∷ lines) e p f q = absurd (no_record_refused WrongKindLine (length e + 1) p q)
+judged_lines (Err IllFormedLine ∷ lines) e p f q = absurd (no_record_refused (Err IllFormedLine) (length e + 1) p q)
+judged_lines (Err WrongKindLine ∷ lines) e p f q = absurd (no_record_refused (Err WrongKindLine) (length e + 1) p q)
 
 pub accepted_records : (text : List ℕ) (p : Policy) → read_of text ≡ acceptance p → Judged (records_of text) [] p
 unfolding records_of Fair

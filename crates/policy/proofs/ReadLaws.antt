@@ -1,5 +1,8 @@
 -- Reading, step by step: a text that is not at its end is its first line and the rest, and the reading is the verdict of that line and
 -- the reading of the rest. `Going` is what the reader's loop keeps.
+use Rattle.std.specs.Prelude.{Result, Ok, Err}
+use Rattle.records.specs.declared.read.NoRecord.TheVariants.{IllFormed as IllFormedLine, WrongKind as WrongKindLine}
+use Rattle.records.specs.declared.read.NoRecord.{NoRecord}
 use Prim.Native.Nat.{ℕ, zero, suc, ◌+◌, ◌-◌, ◌≤◌, ◌<◌}
 use mathlib.Core.List.{List, [], ◌∷◌}
 use mathlib.Core.Path.{◌≡◌, refl, ap, sym, ◌∙◌}
@@ -8,8 +11,6 @@ use lib.Seq.{take_all, drop-drop}
 use lib.ListN.{length, take, drop, set, replicate, length-drop}
 use borrow.Author.Tests.{eq-eqb, ne_eqb, lt-ltb, le-ltb}
 use Rattle.records.specs.declared.kind.Record.{Record}
-use Rattle.records.specs.declared.read.RecordLine.{RecordLine}
-use Rattle.records.specs.declared.read.RecordLine.TheVariants.{Got, IllFormed as IllFormedLine, WrongKind as WrongKindLine}
 use Rattle.records.specs.Kinds.{kind_of}
 use Rattle.records.specs.RecordLines.{record_line}
 use Rattle.records.proofs.LineLaws.{got}
@@ -17,7 +18,6 @@ use Rattle.rows.specs.Places.{row_count, place_of}
 use Rattle.rows.specs.Rows.{row_of}
 use Rattle.rules.specs.declared.refusal.Refusal.{Refusal}
 use Rattle.rules.specs.declared.refusal.Refusal.TheVariants.{TooLong, WrongKind}
-use Rattle.rules.specs.declared.refusal.Verdict.TheVariants.{Accepted, Refused}
 use Rattle.rules.specs.Said.{last_kind}
 use Rattle.rules.specs.Rules.{judged, verdict}
 use Rattle.rules.specs.Tables.{said_by, behind}
@@ -30,10 +30,10 @@ used_some : (text : List ℕ) (n : ℕ) → 1 ≤ used_of (record_line text) (su
 unfolding used_of
 used_some text n = go (record_line text) refl
   where
-    go : (l : RecordLine) → record_line text ≡ l → 1 ≤ used_of l (suc n)
-    go (Got r end) q = (got text r end q).some
-    go IllFormedLine q = omega arith
-    go WrongKindLine q = omega arith
+    go : (l : Result (Record × ℕ) NoRecord) → record_line text ≡ l → 1 ≤ used_of l (suc n)
+    go (Ok (r, end)) q = (got text r end q).some
+    go (Err IllFormedLine) q = omega arith
+    go (Err WrongKindLine) q = omega arith
 
 -- any bound on the length serves
 bounds : (m n : ℕ) (text : List ℕ) → length text ≤ m → length text ≤ n → lines_up_to m text ≡ lines_up_to n text
@@ -47,7 +47,7 @@ bounds (suc m) (suc n) [] p q = refl
 bounds (suc m) (suc n) (b ∷ text) p q =
     let u = used_of (record_line (b ∷ text)) (suc (length text)) in
     let h : length (drop u (b ∷ text)) ≤ length text = rw length-drop (omega (arith, used_some (b ∷ text) (length text))) in
-    ap (λ (ls : List RecordLine). record_line (b ∷ text) ∷ ls) (bounds m n (drop u (b ∷ text)) (omega arith) (omega arith))
+    ap (λ (ls : List (Result (Record × ℕ) NoRecord)). record_line (b ∷ text) ∷ ls) (bounds m n (drop u (b ∷ text)) (omega arith) (omega arith))
 
 pub lines_cons : (text : List ℕ) → 0 < length text → lines_of text ≡ record_line text ∷ lines_of (drop (used_of (record_line text) (length text)) text)
 unfolding lines_of lines_up_to
@@ -55,7 +55,7 @@ lines_cons [] h = absurd (omega arith)
 lines_cons (b ∷ text) h =
     let u = used_of (record_line (b ∷ text)) (suc (length text)) in
     let h : length (drop u (b ∷ text)) ≤ length text = rw length-drop (omega (arith, used_some (b ∷ text) (length text))) in
-    ap (λ (ls : List RecordLine). record_line (b ∷ text) ∷ ls) (bounds (length text) (length (drop u (b ∷ text))) (drop u (b ∷ text)) (omega arith) (omega arith))
+    ap (λ (ls : List (Result (Record × ℕ) NoRecord)). record_line (b ∷ text) ∷ ls) (bounds (length text) (length (drop u (b ∷ text))) (drop u (b ∷ text)) (omega arith) (omega arith))
 
 pub lines_none : lines_of [] ≡ []
 unfolding lines_of lines_up_to
@@ -64,15 +64,15 @@ lines_none = refl
 -- ---- the reading of a text that is not at its end
 
 module _ (e : List Record) (text : List ℕ) (h : 0 < length text) where
-  pub judge_ill_formed : record_line text ≡ IllFormedLine → judge e (lines_of text) ≡ no_record IllFormedLine (length e + 1)
+  pub judge_ill_formed : record_line text ≡ Err IllFormedLine → judge e (lines_of text) ≡ no_record (Err IllFormedLine) (length e + 1)
   unfolding judge
   judge_ill_formed q = rw (lines_cons text h, q)
 
-  pub judge_wrong_kind : record_line text ≡ WrongKindLine → judge e (lines_of text) ≡ no_record WrongKindLine (length e + 1)
+  pub judge_wrong_kind : record_line text ≡ Err WrongKindLine → judge e (lines_of text) ≡ no_record (Err WrongKindLine) (length e + 1)
   unfolding judge
   judge_wrong_kind q = rw (lines_cons text h, q)
 
-  pub judge_got : (r : Record) (end : ℕ) → record_line text ≡ Got r end → judge e (lines_of text) ≡ onward (verdict e r) (judge (r ∷ e) (lines_of (drop end text)))
+  pub judge_got : (r : Record) (end : ℕ) → record_line text ≡ Ok (r, end) → judge e (lines_of text) ≡ onward (verdict e r) (judge (r ∷ e) (lines_of (drop end text)))
   unfolding judge used_of
   judge_got r end q = rw (lines_cons text h, q)
 
@@ -116,21 +116,21 @@ module _ (text rows : List ℕ) (kind next lines at : ℕ) (g : Going text rows 
     some_left : 0 < length (drop at text)
     some_left = omega (arith, length-drop at text)
 
-    pub going_no_record : (line : RecordLine) → record_line (drop at text) ≡ line → ((r : Record) (end : ℕ) → line ≡ Got r end → ⊥) → read_of text ≡ no_record line (lines + 1)
-    going_no_record (Got r end) q d = absurd (d r end refl)
-    going_no_record IllFormedLine q d = g.left ∙ judge_ill_formed g.earlier (drop at text) some_left q ∙ ap (no_record IllFormedLine) line_number
-    going_no_record WrongKindLine q d = g.left ∙ judge_wrong_kind g.earlier (drop at text) some_left q ∙ ap (no_record WrongKindLine) line_number
+    pub going_no_record : (line : Result (Record × ℕ) NoRecord) → record_line (drop at text) ≡ line → ((r : Record) (end : ℕ) → line ≡ Ok (r, end) → ⊥) → read_of text ≡ no_record line (lines + 1)
+    going_no_record (Ok (r, end)) q d = absurd (d r end refl)
+    going_no_record (Err IllFormedLine) q d = g.left ∙ judge_ill_formed g.earlier (drop at text) some_left q ∙ ap (no_record (Err IllFormedLine)) line_number
+    going_no_record (Err WrongKindLine) q d = g.left ∙ judge_wrong_kind g.earlier (drop at text) some_left q ∙ ap (no_record (Err WrongKindLine)) line_number
 
-    going_got : (r : Record) (end : ℕ) → record_line (drop at text) ≡ Got r end
+    going_got : (r : Record) (end : ℕ) → record_line (drop at text) ≡ Ok (r, end)
         → read_of text ≡ onward (verdict g.earlier r) (judge (r ∷ g.earlier) (lines_of (drop end (drop at text))))
     going_got r end q = g.left ∙ judge_got g.earlier (drop at text) some_left r end q
 
-    pub going_refused : (r : Record) (end : ℕ) (why : Refusal) → record_line (drop at text) ≡ Got r end → verdict g.earlier r ≡ Refused why → read_of text ≡ refusal why
+    pub going_refused : (r : Record) (end : ℕ) (why : Refusal) → record_line (drop at text) ≡ Ok (r, end) → verdict g.earlier r ≡ Err why → read_of text ≡ refusal why
     unfolding onward
     going_refused r end why q v = going_got r end q ∙ rw v
 
     -- one line more
-    pub going_on : (r : Record) (end : ℕ) → record_line (drop at text) ≡ Got r end → verdict g.earlier r ≡ Accepted
+    pub going_on : (r : Record) (end : ℕ) → record_line (drop at text) ≡ Ok (r, end) → verdict g.earlier r ≡ Ok tt
         → Going text (set rows (place_of next r) (row_of r)) (kind_of r) (place_of next r + 1) (lines + 1) (at + end)
     unfolding onward
     going_on r end q v =
@@ -143,7 +143,7 @@ module _ (text rows : List ℕ) (kind next lines at : ℕ) (g : Going text rows 
           left = going_got r end q ∙ rw v (ap (λ (s : List ℕ). judge (r ∷ g.earlier) (lines_of s)) (drop-drop end at text));
         }
 
-    pub going_place : (r : Record) → verdict g.earlier r ≡ Accepted → place_of next r ≤ row_count
+    pub going_place : (r : Record) → verdict g.earlier r ≡ Ok tt → place_of next r ≤ row_count
     going_place r v = rw g.tied.next (place_within g.earlier r g.tied.fair v)
 
   module _ (l : length text ≤ at) where

@@ -1,5 +1,7 @@
 -- Reader and writer are each other's inverse. An accepted text's lines stand in its policy's table and are its lines, so the policy's
 -- text is the text; and "one that no accepted text gives" is one that its own text does not give.
+use Rattle.std.specs.Prelude.{Result, Ok, Err}
+use Rattle.rules.specs.declared.refusal.Refusal.{Refusal}
 use Prim.Native.Nat.{ℕ, ◌<◌}
 use mathlib.Core.Bool.{Bool, true, false, true≢false}
 use mathlib.Core.List.{List, [], ◌∷◌, ◌++◌}
@@ -16,8 +18,6 @@ use Rattle.records.specs.Kinds.{kind_of}
 use Rattle.rows.specs.Places.{row_count, place_of}
 use Rattle.rows.specs.Lines.{next_in, table_of, lines_in, in_order}
 use Rattle.rows.proofs.LineTableLaws.{get_row, is_table, row_other, lines_back, table_length}
-use Rattle.rules.specs.declared.refusal.Verdict.{Verdict}
-use Rattle.rules.specs.declared.refusal.Verdict.TheVariants.{Accepted, Refused}
 use Rattle.rules.specs.Said.{last_kind}
 use Rattle.rules.specs.Rules.{complete, incomplete, verdict, Fair}
 use Rattle.rules.proofs.Fine.{fine}
@@ -41,7 +41,7 @@ end_table e count =
     (λ i l. get_row (End count ∷ e) i l ∙ row_other (End count) e i (end_other e count i l))
 
 -- it has the count of the lines before it
-pub end_count : (e : List Record) (count : ℕ) → verdict e (End count) ≡ Accepted → count ≡ length e
+pub end_count : (e : List Record) (count : ℕ) → verdict e (End count) ≡ Ok tt → count ≡ length e
 unfolding incomplete complete
 end_count e count v =
     let c = both (eqb count (length e)) _ (not-false _ (fine e (End count) v).full) in
@@ -115,12 +115,12 @@ pub gives_accepted : (reading : Reading) (p : Policy) → gives reading p ≡ tr
 unfolding gives acceptance
 gives_accepted reading p q = go reading.verdict refl
   where
-    go : (v : Verdict) → reading.verdict ≡ v → reading ≡ record { verdict = Accepted; policy = p }
-    go Accepted e =
+    go : (v : Result Unit Refusal) → reading.verdict ≡ v → reading ≡ record { verdict = Ok tt; policy = p }
+    go (Ok done) e =
         let t = both (accepts reading.verdict) (same_numbers reading.policy.rows p.rows) q in
         let s = same_numbers_lem reading.policy.rows p.rows t.1 in
-        ap₂ (λ (v : Verdict) (rows : List ℕ). record { verdict = v; policy = record { rows = rows } }) e s
-    go (Refused why) e = absurd (true≢false (sym q ∙ rw e))
+        ap₂ (λ (v : Result Unit Refusal) (rows : List ℕ). record { verdict = v; policy = record { rows = rows } }) e s
+    go (Err why) e = absurd (true≢false (sym q ∙ rw e))
 
 accepted_gives : (p : Policy) → gives (acceptance p) p ≡ true
 unfolding gives acceptance

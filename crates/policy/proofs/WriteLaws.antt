@@ -1,6 +1,7 @@
 -- The lines of a table below a place, one place more: how many they are, and what they are written as. A table's text is that of
 -- its lines and then its last line's, so that a buffer with room for the text has room for each part; laid from the buffer's start
 -- it is what the writer's contract says.
+use Rattle.std.specs.Prelude.{Ok, Err}
 use Prim.Native.Nat.{ℕ, zero, suc, ◌+◌, ◌-◌, ◌*◌, ◌≤◌, ◌<◌}
 use mathlib.Core.Bool.{Bool, true, false}
 use mathlib.Core.List.{List, [], ◌∷◌, ◌++◌, append_assoc, append-nil}
@@ -24,7 +25,6 @@ use Rattle.rows.specs.Lines.{line_at, lines_below, lines_in}
 use Rattle.rules.specs.declared.refusal.Refusal.TheVariants.{NotAPolicy, NoRoom}
 use Rattle.policy.specs.declared.value.Policy.{Policy}
 use Rattle.policy.specs.declared.writer.Size.{Size}
-use Rattle.policy.specs.declared.writer.Writing.TheVariants.{Wrote, NotWritten}
 use Rattle.policy.specs.Writes.{texts_of, all_lines, text_of, size_of, known, known_rows, write_of, written_of}
 
 -- ---- the text of some lines
@@ -219,29 +219,29 @@ pub known_by_rows : (p : Policy) (r : Bool) → r ≡ known_rows p.rows → know
 unfolding known_rows
 known_by_rows p r e = sym e
 
-pub unknown : (p : Policy) (out : List ℕ) → known p ≡ false → (NotWritten NotAPolicy ≡ write_of p out) × (out ≡ written_of p out)
+pub unknown : (p : Policy) (out : List ℕ) → known p ≡ false → (Err NotAPolicy ≡ write_of p out) × (out ≡ written_of p out)
 unfolding write_of written_of
 unknown p out k = (rw k, rw k)
 
-pub no_room : (p : Policy) (out : List ℕ) → known p ≡ true → length out < length (text_of p) → (NotWritten NoRoom ≡ write_of p out) × (out ≡ written_of p out)
+pub no_room : (p : Policy) (out : List ℕ) → known p ≡ true → length out < length (text_of p) → (Err NoRoom ≡ write_of p out) × (out ≡ written_of p out)
 unfolding write_of written_of
 no_room p out k h =
     let t = lt-leb (length (text_of p)) (length out) h in
     (rw (k, t), rw (k, t))
 
-with_text : (p : Policy) (out₀ out : List ℕ) (end : ℕ) → known p ≡ true → Laid out₀ 0 (text_of p) out end → (Wrote end ≡ write_of p out₀) × (out ≡ written_of p out₀)
+with_text : (p : Policy) (out₀ out : List ℕ) (end : ℕ) → known p ≡ true → Laid out₀ 0 (text_of p) out end → (Ok end ≡ write_of p out₀) × (out ≡ written_of p out₀)
 unfolding write_of written_of
 with_text p out₀ out end k l =
     let n : 0 + length (text_of p) ≡ length (text_of p) = omega arith in
     let t = le-leb (length (text_of p)) (length out₀) (omega (arith, l.room)) in
-    (rw (k, t) (ap Wrote (l.ends ∙ n)), rw (k, t) (l.now ∙ ap (λ (x : ℕ). text_of p ++ drop x out₀) n))
+    (rw (k, t) (ap Ok (l.ends ∙ n)), rw (k, t) (l.now ∙ ap (λ (x : ℕ). text_of p ++ drop x out₀) n))
 
 -- the lines but the last, then the last
 pub wrote : (p : Policy) (out₀ : List ℕ) → known p ≡ true → length (text_of p) ≤ length out₀ →
     (out : List ℕ) (at : ℕ) → at ≡ length (texts_of (lines_in p.rows)) → out ≡ lay out₀ 0 (texts_of (lines_in p.rows)) →
     (lines : ℕ) → lines ≡ length (lines_in p.rows) →
     (out' : List ℕ) (end : ℕ) → end ≡ after out at (line_text (bytes_of (End lines))) → out' ≡ lay out at (line_text (bytes_of (End lines))) →
-    (Wrote end ≡ write_of p out₀) × (out' ≡ written_of p out₀)
+    (Ok end ≡ write_of p out₀) × (out' ≡ written_of p out₀)
 unfolding text_of
 wrote p out₀ k h out at a w lines n out' end e v =
     let rows = p.rows in

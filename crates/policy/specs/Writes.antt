@@ -1,19 +1,16 @@
 -- What a policy is written as: its lines in the text's order, and the count of them. A policy is known where its own text is
 -- accepted and gives it back. The writer answers "P0 before P9", and "a refused writing changes no byte".
-use Rattle.std.specs.Prelude.{ℕ, Bool, true, false, cond, ◌&&◌, List, [], ◌∷◌, ◌++◌, length, drop, leb, eqb}
+use Rattle.std.specs.Prelude.{ℕ, Bool, true, false, cond, ◌&&◌, List, [], ◌∷◌, ◌++◌, length, drop, leb, eqb, Result, Ok, Err}
+use Rattle.rules.specs.declared.refusal.Refusal.{Refusal}
 use Rattle.hexline.specs.Writes.{line_text}
 use Rattle.records.specs.declared.kind.Record.{Record}
 use Rattle.records.specs.declared.kind.Record.TheVariants.{End}
 use Rattle.records.specs.Kinds.{bytes_of}
 use Rattle.rows.specs.Lines.{lines_in}
 use Rattle.rules.specs.declared.refusal.Refusal.TheVariants.{NotAPolicy, NoRoom}
-use Rattle.rules.specs.declared.refusal.Verdict.{Verdict}
-use Rattle.rules.specs.declared.refusal.Verdict.TheVariants.{Accepted, Refused}
 use Rattle.policy.specs.declared.value.Policy.{Policy}
 use Rattle.policy.specs.declared.reader.Reading.{Reading}
 use Rattle.policy.specs.declared.writer.Size.{Size}
-use Rattle.policy.specs.declared.writer.Writing.{Writing}
-use Rattle.policy.specs.declared.writer.Writing.TheVariants.{Wrote, NotWritten}
 use Rattle.policy.specs.Reads.{read_of}
 
 -- the text of some lines
@@ -38,9 +35,9 @@ same_numbers [] (y ∷ ys) = false
 same_numbers (x ∷ xs) [] = false
 same_numbers (x ∷ xs) (y ∷ ys) = eqb x y && same_numbers xs ys
 
-abbrev pub accepts : Verdict → Bool
-accepts Accepted = true
-accepts (Refused why) = false
+abbrev pub accepts : Result Unit Refusal → Bool
+accepts (Ok done) = true
+accepts (Err why) = false
 
 -- whether a reading gives the policy
 unfoldable pub gives : Reading → Policy → Bool
@@ -55,11 +52,11 @@ unfoldable pub known_rows : List ℕ → Bool
 known_rows rows = known (record { rows = rows })
 
 -- what the writer answers
-unfoldable pub write_of : Policy → List ℕ → Writing
+unfoldable pub write_of : Policy → List ℕ → Result ℕ Refusal
 write_of p out =
     cond (known p)
-    (cond (leb (length (text_of p)) (length out)) (Wrote (length (text_of p))) (NotWritten NoRoom))
-    (NotWritten NotAPolicy)
+    (cond (leb (length (text_of p)) (length out)) (Ok (length (text_of p))) (Err NoRoom))
+    (Err NotAPolicy)
 
 -- what the buffer then holds: the text, and past it what was there; without success what was there
 unfoldable pub written_of : Policy → List ℕ → List ℕ

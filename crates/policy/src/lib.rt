@@ -12,7 +12,7 @@ pub mod writer; // a policy, written
 pub use own_text::known;
 pub use reader::{Reading, read};
 pub use value::Policy;
-pub use writer::{Writing, write};
+pub use writer::write;
 
 // No code: that reader and writer are each other's inverse, and that a refusal leaves nothing behind, is this function's contract.
 pub fn lawful()

@@ -6,7 +6,7 @@ use crate::step::put;
 use crate::value::Policy;
 use records::Record;
 use rows::{ROWS, record_at, row_at};
-use rules::{Progress, Verdict, verdict_of};
+use rules::{Progress, verdict_of};
 
 // Whether two tables hold the same numbers.
 fn same_rows(a: &[u64], b: &[u64]) -> bool
@@ -45,7 +45,7 @@ pub fn known_rows(given: &[u64]) -> bool
         let rec = record_at(place, row);
         let number = done.lines + 1;
         let verdict = verdict_of(&rows, done, number, rec);
-        let Verdict::Accepted = verdict else {
+        let Ok(()) = verdict else {
             return false;
         };
         let after = put(&mut rows, done, rec);
@@ -55,7 +55,7 @@ pub fn known_rows(given: &[u64]) -> bool
     let count = done.lines;
     let number = count + 1;
     let verdict = verdict_of(&rows, done, number, Record::End { count });
-    let Verdict::Accepted = verdict else {
+    let Ok(()) = verdict else {
         return false;
     };
     same_rows(&rows, given)

@@ -1,18 +1,18 @@
 // A text, line by line: the first faulty line decides.
-ghost use Rattle.std.specs.Prelude.{◌≡◌};
+ghost use Rattle.std.specs.Prelude.{◌≡◌, Err};
 ghost use Rattle.policy.specs.Reads.{refusal, no_record, handed_up, read_of};
 
 use crate::step::put;
 use crate::value::Policy;
-use records::{RecordLine, read_record};
-use rules::{END, Progress, Refusal, Verdict, verdict_of};
+use records::{NoRecord, Record, read_record};
+use rules::{END, Progress, Refusal, verdict_of};
 
 const LONGEST_TEXT: usize = 32768;
 
 // The verdict, and beside it the policy: all zeros where the text is refused.
 #[derive(Clone, Copy, Drop)]
 pub struct Reading {
-    pub verdict: Verdict,
+    pub verdict: Result<(), Refusal>,
     pub policy: Policy,
 }
 
@@ -21,24 +21,32 @@ fn refused(why: Refusal) -> Reading
 {
     let policy = Policy::zero();
     Reading {
-        verdict: Verdict::Refused(why),
+        verdict: Err(why),
         policy,
     }
 }
 
+fn refused_line(why: NoRecord, number: u16) -> Reading
+    ensures { result ≡ no_record (Err why) number }
+{
+    match why {
+        NoRecord::IllFormed => refused(Refusal::IllFormed(number)),
+        NoRecord::WrongKind => refused(Refusal::WrongKind(number)),
+    }
+}
+
 // The refusal of a line that is no record.
-fn no_record(line: RecordLine, number: u16) -> Reading
+fn no_record(line: Result<(Record, usize), NoRecord>, number: u16) -> Reading
     ensures { result ≡ no_record line number }
 {
     match line {
-        RecordLine::Got(_, _) => refused(Refusal::IllFormed(number)),
-        RecordLine::IllFormed => refused(Refusal::IllFormed(number)),
-        RecordLine::WrongKind => refused(Refusal::WrongKind(number)),
+        Ok(_) => refused(Refusal::IllFormed(number)),
+        Err(why) => refused_line(why, number),
     }
 }
 
 // The refusal of a line, handed up.
-fn handed_up(verdict: Verdict) -> Reading
+fn handed_up(verdict: Result<(), Refusal>) -> Reading
     ensures { result ≡ handed_up verdict }
 {
     let policy = Policy::zero();
@@ -62,11 +70,11 @@ pub fn read(text: &[u8]) -> Reading
     while at < size {
         let number = done.lines + 1;
         let line = read_record(&text[at..]);
-        let RecordLine::Got(rec, used) = line else {
+        let Ok((rec, used)) = line else {
             return no_record(line, number);
         };
         let verdict = verdict_of(&rows, done, number, rec);
-        let Verdict::Accepted = verdict else {
+        let Ok(()) = verdict else {
             return handed_up(verdict);
         };
         let after = put(&mut rows, done, rec);
@@ -79,7 +87,7 @@ pub fn read(text: &[u8]) -> Reading
     }
     let policy = Policy { rows };
     Reading {
-        verdict: Verdict::Accepted,
+        verdict: Ok(()),
         policy,
     }
 }

@@ -11,13 +11,6 @@ use records::{Record, put_record, record_size};
 use rows::{ROWS, record_at, row_at};
 use rules::Refusal;
 
-#[derive(Clone, Copy, Drop)]
-pub enum Writing {
-    // The length of the text.
-    Wrote(usize),
-    NotWritten(Refusal),
-}
-
 // How many lines a table has, and how many bytes they take.
 #[derive(Clone, Copy, Drop)]
 pub struct Size {
@@ -83,19 +76,20 @@ fn put_lines(out: &mut [u8], rows: &[u64]) -> usize
     at
 }
 
-pub fn write(p: Policy, out: &mut [u8]) -> Writing
+// The length of the text.
+pub fn write(p: Policy, out: &mut [u8]) -> Result<usize, Refusal>
     ensures { (result ≡ write_of p out.old) × (out.new ≡ written_of p out.old) }
 {
     let rows = p.rows;
     if !known_rows(&rows) {
-        return Writing::NotWritten(Refusal::NotAPolicy);
+        return Err(Refusal::NotAPolicy);
     }
     let size = text_size(&rows);
     if out.len() < size.bytes {
-        return Writing::NotWritten(Refusal::NoRoom);
+        return Err(Refusal::NoRoom);
     }
     let at = put_lines(out, &rows);
     let end = Record::End { count: size.lines };
     let length = put_record(out, at, end);
-    Writing::Wrote(length)
+    Ok(length)
 }

@@ -1,5 +1,5 @@
 // A buffer to write into, longer than every accepted text, and what of it was changed.
-use policy::Writing;
+use rules::Refusal;
 
 pub(crate) const SIZE: usize = 40000;
 
@@ -35,9 +35,9 @@ pub(crate) fn begins(out: &[u8; 40000], text: &[u8]) -> bool {
 }
 
 // Whether the answer is the refusal of a number, and the buffer as it was.
-pub(crate) fn is_kept(answer: Writing, number: u8, out: &[u8; 40000]) -> bool {
+pub(crate) fn is_kept(answer: Result<usize, Refusal>, number: u8, out: &[u8; 40000]) -> bool {
     match answer {
-        Writing::Wrote(_) => false,
-        Writing::NotWritten(why) => (why.number() == number) & (changed(out, 0) == 0),
+        Ok(_) => false,
+        Err(why) => (why.number() == number) & (changed(out, 0) == 0),
     }
 }

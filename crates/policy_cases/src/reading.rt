@@ -2,8 +2,8 @@
 use crate::buffer::{begins, changed, is_kept};
 use crate::format::before_last;
 use crate::print;
-use policy::{Policy, Reading, Writing, read, write};
-use rules::{Refusal, Verdict};
+use policy::{Policy, read, write};
+use rules::Refusal;
 use std::io;
 
 // Whether all rows are zeros, as beside a refusal.
@@ -19,9 +19,14 @@ fn is_zero(rows: &[u64]) -> bool {
 }
 
 // What the writer answered, and what it left in the buffer: the text's own bytes, and past them what was there.
-fn written(rt: &impl Print, answer: Writing, out: &[u8; 40000], text: &[u8]) -> io::Result<()> {
+fn written(
+    rt: &impl Print,
+    answer: Result<usize, Refusal>,
+    out: &[u8; 40000],
+    text: &[u8],
+) -> io::Result<()> {
     match answer {
-        Writing::Wrote(n) => {
+        Ok(n) => {
             let same = begins(out, text);
             let past = changed(out, n);
             if same & (n == text.len()) & (past == 0) {
@@ -30,7 +35,7 @@ fn written(rt: &impl Print, answer: Writing, out: &[u8; 40000], text: &[u8]) -> 
                 print::words(rt, b"FE, and written otherwise")
             }
         }
-        Writing::NotWritten(why) => {
+        Err(why) => {
             print::words(rt, b"FE, and writing it gives ")?;
             print::refusal(rt, why)
         }
@@ -68,8 +73,8 @@ pub(crate) fn whole(rt: &impl Print, text: &[u8]) -> io::Result<()> {
     let verdict = reading.verdict;
     let policy = reading.policy;
     match verdict {
-        Verdict::Accepted => accepted(rt, policy, text),
-        Verdict::Refused(why) => refused(rt, why, policy),
+        Ok(()) => accepted(rt, policy, text),
+        Err(why) => refused(rt, why, policy),
     }
 }
 

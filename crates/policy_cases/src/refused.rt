@@ -2,8 +2,8 @@
 use crate::buffer::{SIZE, begins, changed, is_kept};
 use crate::format::{place_in, row_in};
 use crate::print;
-use policy::{Policy, Writing, read, write};
-use rules::{Refusal, Verdict};
+use policy::{Policy, read, write};
+use rules::Refusal;
 use std::io;
 
 // How many rows a policy has.
@@ -25,16 +25,20 @@ fn with_row(policy: Policy, place: usize, row: u64) -> Policy {
 }
 
 // What the writer answered, and how many bytes of the buffer it changed past those that it says it wrote.
-fn print_answer(rt: &impl Print, answer: Writing, out: &[u8; 40000]) -> io::Result<()> {
+fn print_answer(
+    rt: &impl Print,
+    answer: Result<usize, Refusal>,
+    out: &[u8; 40000],
+) -> io::Result<()> {
     match answer {
-        Writing::Wrote(n) => {
+        Ok(n) => {
             print::words(rt, b"FE, ")?;
             print::number(rt, n)?;
             print::words(rt, b" bytes written and past them ")?;
             print::number(rt, changed(out, n))?;
             print::words(rt, b" changed")
         }
-        Writing::NotWritten(why) => {
+        Err(why) => {
             print::refusal(rt, why)?;
             print::words(rt, b", ")?;
             print::number(rt, changed(out, 0))?;
@@ -44,9 +48,9 @@ fn print_answer(rt: &impl Print, answer: Writing, out: &[u8; 40000]) -> io::Resu
 }
 
 // The policy written into the first so many bytes alone.
-fn write_within(policy: Policy, out: &mut [u8], length: usize) -> Writing {
+fn write_within(policy: Policy, out: &mut [u8], length: usize) -> Result<usize, Refusal> {
     if out.len() < length {
-        return Writing::NotWritten(Refusal::TooLong);
+        return Err(Refusal::TooLong);
     }
     write(policy, &mut out[..length])
 }
@@ -70,8 +74,8 @@ pub(crate) fn changed_row(rt: &impl Print, name: &[u8], text: &[u8]) -> io::Resu
     let verdict = reading.verdict;
     let policy = reading.policy;
     match verdict {
-        Verdict::Accepted => write_changed(rt, policy, place_in(name), row_in(name)),
-        Verdict::Refused(why) => print::refusal(rt, why),
+        Ok(()) => write_changed(rt, policy, place_in(name), row_in(name)),
+        Err(why) => print::refusal(rt, why),
     }
 }
 
@@ -124,8 +128,8 @@ pub(crate) fn each_row(rt: &impl Print, text: &[u8]) -> io::Result<()> {
     let verdict = reading.verdict;
     let policy = reading.policy;
     match verdict {
-        Verdict::Accepted => print_each_row(rt, policy),
-        Verdict::Refused(why) => print::refusal(rt, why),
+        Ok(()) => print_each_row(rt, policy),
+        Err(why) => print::refusal(rt, why),
     }
 }
 
@@ -137,10 +141,10 @@ fn is_too_short(policy: Policy, length: usize) -> bool {
 }
 
 // Whether the answer is the text's length, the buffer begins with the text, and past it all is as it was.
-fn is_whole(answer: Writing, text: &[u8], out: &[u8; 40000]) -> bool {
+fn is_whole(answer: Result<usize, Refusal>, text: &[u8], out: &[u8; 40000]) -> bool {
     match answer {
-        Writing::Wrote(n) => (n == text.len()) & begins(out, text) & (changed(out, n) == 0),
-        Writing::NotWritten(_) => false,
+        Ok(n) => (n == text.len()) & begins(out, text) & (changed(out, n) == 0),
+        Err(_) => false,
     }
 }
 
@@ -198,7 +202,7 @@ pub(crate) fn each_length(rt: &impl Print, text: &[u8]) -> io::Result<()> {
     let verdict = reading.verdict;
     let policy = reading.policy;
     match verdict {
-        Verdict::Accepted => print_each_length(rt, policy, text),
-        Verdict::Refused(why) => print::refusal(rt, why),
+        Ok(()) => print_each_length(rt, policy, text),
+        Err(why) => print::refusal(rt, why),
     }
 }

@@ -1,6 +1,7 @@
 -- Laws in the code's form: the search for the lowest number, the filling of an array, the search round the groups, and the taking of a
 -- vector, each as one turn of a loop, one call or one branch takes it on. Each holds by unrolling its definition once; `filled_more` by
 -- induction on the places that are filled.
+use Rattle.std.specs.Prelude.{Option, Some, None}
 use mathlib.Core.Path.{◌≡◌, refl, sym, ap, ◌∙◌}
 use mathlib.Core.Bool.{Bool, true, false, cond}
 use mathlib.Core.List.{List, ◌∷◌, ◌++◌, append-nil}
@@ -9,13 +10,10 @@ use native.Mathlib.Omega.{arith}
 use native.Mathlib.Numerals.{add-one, sub-one}
 use lib.ListN.{set, replicate}
 use Rattle.records.specs.declared.kind.Counts.{Counts}
-use Rattle.bits.specs.declared.top.Highest.{Highest}
-use Rattle.bits.specs.declared.top.Highest.TheVariants as top
 use Rattle.bits.specs.Sets.{highest256}
 use Rattle.programs.specs.declared.subject.Subject.{Subject}
 use Rattle.programs.specs.Entering.{vector_taken, vector_taken_at}
 use Rattle.programs.specs.Fresh.{lowest_from, list_from}
-use Rattle.programs.specs.declared.round.Found.TheVariants.{Nobody, At}
 use Rattle.programs.specs.declared.whole.Programs.{Programs}
 use Rattle.rows.specs.Lookups.{counts_of}
 use Rattle.programs.specs.Round.{after, may_run, next_awake}
@@ -92,7 +90,7 @@ filled_all item none i count l e f = let s : count - count ≡ 0 = omega arith i
 
 -- ---- the next awake group: none where none is left to look at, else the next one or the search from there
 
-pub next_none : (rows : List ℕ) (s : Programs) (partition left group : ℕ) → left ≡ 0 → next_awake rows s partition left group ≡ Nobody
+pub next_none : (rows : List ℕ) (s : Programs) (partition left group : ℕ) → left ≡ 0 → next_awake rows s partition left group ≡ None
 unfolding next_awake
 next_none rows s partition zero group e = refl
 next_none rows s partition (suc left) group e = absurd (omega arith)
@@ -100,7 +98,7 @@ next_none rows s partition (suc left) group e = absurd (omega arith)
 pub next_more :
     (rows : List ℕ) (s : Programs) (partition left group next : ℕ) (counts : Counts) → (left ≡ 0 → ⊥) → counts ≡ counts_of rows →
     next ≡ after counts.groups group →
-    next_awake rows s partition left group ≡ cond (may_run rows s partition next) (At next) (next_awake rows s partition (left - 1) next)
+    next_awake rows s partition left group ≡ cond (may_run rows s partition next) (Some next) (next_awake rows s partition (left - 1) next)
 unfolding next_awake
 next_more rows s partition zero group next counts h n e = absurd (h refl)
 next_more rows s partition (suc left) group next counts h n e = rw (sub-one, e, n)
@@ -110,12 +108,12 @@ next_more rows s partition (suc left) group next counts h n e = rw (sub-one, e, 
 cond_by : {A : Type 0} (t b : Bool) (x y : A) → t ≡ b → cond b x y ≡ cond t x y
 cond_by t b x y e = rw e
 
-pub taken_closed : (x : Subject) → x.«open» ≡ false → record { subject = x; vector = top.Nothing } ≡ vector_taken x
+pub taken_closed : (x : Subject) → x.«open» ≡ false → record { subject = x; vector = None } ≡ vector_taken x
 unfolding vector_taken
-taken_closed x e = cond_by x.«open» false (vector_taken_at x (highest256 x.vectors)) (record { subject = x; vector = top.Nothing }) e
+taken_closed x e = cond_by x.«open» false (vector_taken_at x (highest256 x.vectors)) (record { subject = x; vector = None }) e
 
-pub taken_open : (x : Subject) (v : Highest) → x.«open» ≡ true → v ≡ highest256 x.vectors → vector_taken_at x v ≡ vector_taken x
+pub taken_open : (x : Subject) (v : Option ℕ) → x.«open» ≡ true → v ≡ highest256 x.vectors → vector_taken_at x v ≡ vector_taken x
 unfolding vector_taken
 taken_open x v e f =
     ap (vector_taken_at x) f
-    ∙ cond_by x.«open» true (vector_taken_at x (highest256 x.vectors)) (record { subject = x; vector = top.Nothing }) e
+    ∙ cond_by x.«open» true (vector_taken_at x (highest256 x.vectors)) (record { subject = x; vector = None }) e

@@ -1,5 +1,6 @@
 -- What an entry takes: the event by the set's highest number, its action, then the vector by the highest of what is then pending. The two
 -- halves are separate: `reacted_exactly` for the event, `vector_taken_lem` for the vector; `bits` says what a set has after a mark or clear.
+use Rattle.std.specs.Prelude.{Option, Some, None}
 use Prim.Native.Nat.{ℕ, ◌≤◌, ◌<◌}
 use mathlib.Core.Bool.{Bool, true, false, not, cond, ◌&&◌, true≢false}
 use mathlib.Core.List.{List}
@@ -7,8 +8,6 @@ use mathlib.Core.Path.{◌≡◌, refl, ap, sym, subst, ◌∙◌}
 use native.Mathlib.Omega.{arith}
 use lib.Dec.{eqb}
 use Rattle.bits.specs.declared.one_word.Bits64.{Bits64}
-use Rattle.bits.specs.declared.top.Highest.{Highest}
-use Rattle.bits.specs.declared.top.Highest.TheVariants as top
 use Rattle.bits.specs.Members.{NoneBelow, Top}
 use Rattle.bits.specs.Sets.{has64, has256, highest256}
 use Rattle.bits.proofs.Sets.{one_word, four_words}
@@ -36,21 +35,21 @@ use Rattle.programs.proofs.SignalLaws.{subject_inside}
 record Injected (x : Subject) (i : Injection) : Type 0 where
   events : i.subject.events ≡ x.events
   opened : i.subject.«open» ≡ x.«open»
-  closed : x.«open» ≡ false → i.vector ≡ top.Nothing
-  none_pending : NoneBelow (has256 x.vectors) 256 → i.vector ≡ top.Nothing
-  highest : (v : ℕ) → x.«open» ≡ true → Top (has256 x.vectors) 256 v → i.vector ≡ top.At v
+  closed : x.«open» ≡ false → i.vector ≡ None
+  none_pending : NoneBelow (has256 x.vectors) 256 → i.vector ≡ None
+  highest : (v : ℕ) → x.«open» ≡ true → Top (has256 x.vectors) 256 v → i.vector ≡ Some v
   vectors : VectorTaken (has256 x.vectors) i.subject i.vector
 
-apart : (v : ℕ) → top.Nothing ≡ top.At v → ⊥
+apart : (v : ℕ) → None ≡ Some v → ⊥
 apart v e = let z : ◌≡◌ {A = ℕ} 0 1 = cc in omega arith
 
-kept_vectors : (x : Subject) → VectorTaken (has256 x.vectors) x top.Nothing
+kept_vectors : (x : Subject) → VectorTaken (has256 x.vectors) x None
 kept_vectors x = record { none = λ e u. refl; one = λ v e. absurd (apart v e) }
 
 module _ (x : Subject) where
-  taken_at : (h : Highest) → x.«open» ≡ true → highest256 x.vectors ≡ h → Injected x (vector_taken_at x h)
+  taken_at : (h : Option ℕ) → x.«open» ≡ true → highest256 x.vectors ≡ h → Injected x (vector_taken_at x h)
   unfolding vector_taken_at vector_cleared
-  taken_at top.Nothing o e = record {
+  taken_at None o e = record {
     events = refl;
     opened = refl;
     closed = λ q. refl;
@@ -58,7 +57,7 @@ module _ (x : Subject) where
     highest = λ v q t. sym e ∙ top_highest four_words x.vectors t;
     vectors = kept_vectors x;
   }
-  taken_at (top.At w) o e = record {
+  taken_at (Some w) o e = record {
     events = refl;
     opened = refl;
     closed = λ q. absurd (true≢false (sym o ∙ q));
@@ -74,7 +73,7 @@ module _ (x : Subject) where
   unfolding vector_taken
   vector_taken_lem = go x.«open» refl
     where
-      go : (t : Bool) → x.«open» ≡ t → Injected x (cond t (vector_taken_at x (highest256 x.vectors)) (record { subject = x; vector = top.Nothing }))
+      go : (t : Bool) → x.«open» ≡ t → Injected x (cond t (vector_taken_at x (highest256 x.vectors)) (record { subject = x; vector = None }))
       go true e = taken_at (highest256 x.vectors) e refl
       go false e = record {
         events = refl;

@@ -2,6 +2,8 @@
 -- sleeping, marking and taking store no active group and no active subject; the search finds a group of the partition; a handover stays
 -- in its group and a masked line is below 24 (`Facts`). That a word is below 2 ^ 24 is that it has no line from 24 on.
 -- Assumes nothing.
+use Rattle.std.specs.Prelude.{Option, Some, None}
+use Rattle.meaning.specs.declared.answer.IrqLine.{IrqLine}
 use Prim.Native.Nat.{ℕ, ◌^◌, ◌≤◌, ◌<◌}
 use mathlib.Core.Bool.{Bool, true, false, not, ◌&&◌}
 use mathlib.Core.List.{List}
@@ -17,20 +19,14 @@ use Rattle.bits.proofs.Sets.{one_word, below}
 use Rattle.bits.proofs.Callers.{mark_other}
 use Rattle.rows.specs.Lookups.{counts_of, partition_of, group_of}
 use Rattle.meaning.specs.declared.answer.HostVector.{HostVector}
-use Rattle.meaning.specs.declared.answer.Masking.{Masking}
-use Rattle.meaning.specs.declared.answer.Masking.TheVariants.{NoLine, Line}
 use Rattle.meaning.specs.declared.answer.Route.{Route}
-use Rattle.meaning.specs.declared.answer.Route.TheVariants as route
 use Rattle.meaning.specs.declared.answer.Signal.{Signal}
-use Rattle.meaning.specs.declared.answer.Signal.TheVariants as signal
 use Rattle.meaning.specs.declared.answer.Action.{Action}
 use Rattle.meaning.specs.declared.answer.Action.TheVariants.{Nothing, Sleep, Yield, Handover, Unmask, Reboot, PowerOff, Panic}
 use Rattle.meaning.specs.Lookups.{route_of, source_event}
 use Rattle.accepted.specs.Facts.{Facts, MaskingFits}
 use Rattle.programs.specs.declared.group.Group.{Group}
 use Rattle.programs.specs.declared.subject.Subject.{Subject}
-use Rattle.programs.specs.declared.round.Found.{Found}
-use Rattle.programs.specs.declared.round.Found.TheVariants.{Nobody, At}
 use Rattle.programs.specs.declared.whole.Programs.{Programs}
 use Rattle.programs.specs.Records.{woken, asleep, handed_to}
 use Rattle.programs.specs.Parts.{no_group, group_at, active_group, active_subject, with_group, with_subject, with_active, with_masks}
@@ -111,21 +107,21 @@ clear_range m line l =
 
 -- ---- an interrupt
 
-masked_range : (rows : List ℕ) (s : Programs) → InRange rows s → (line : Masking) → MaskingFits line → InRange rows (masked s line)
+masked_range : (rows : List ℕ) (s : Programs) → InRange rows s → (line : Option IrqLine) → MaskingFits line → InRange rows (masked s line)
 unfolding masked
-masked_range rows s r NoLine f = r
-masked_range rows s r (Line line) f = masks_range rows s r (mark64 s.masks line.0) (mark_range s.masks line.0 r.masks f)
+masked_range rows s r None f = r
+masked_range rows s r (Some line) f = masks_range rows s r (mark64 s.masks line.0) (mark_range s.masks line.0 r.masks f)
 
 interrupt_range : (rows : List ℕ) (s : Programs) (host : HostVector) → Facts rows → InRange rows s → InRange rows (interrupted rows s host)
 unfolding interrupted routed vector_pending
 interrupt_range rows s host f r = go (route_of rows host) refl
   where
-    go : (way : Route) → route_of rows host ≡ way → InRange rows (routed rows s way)
-    go route.Nowhere e = r
-    go (route.To subject vector line) e =
-        masked_range rows (woke rows (vector_pending s subject vector) subject)
-        (woke_range rows (vector_pending s subject vector) (subject_range rows s r subject _) subject) line
-        (f.routed host subject vector line e).1.1.1
+    go : (way : Option Route) → route_of rows host ≡ way → InRange rows (routed rows s way)
+    go None e = r
+    go (Some route) e =
+        masked_range rows (woke rows (vector_pending s route.subject route.vector) route.subject)
+        (woke_range rows (vector_pending s route.subject route.vector) (subject_range rows s r route.subject _) route.subject) route.line
+        (f.routed host route.subject route.vector route.line e).1.1.1
 
 -- ---- a source event
 
@@ -134,9 +130,9 @@ module _ (rows : List ℕ) (s : Programs) (f : Facts rows) (r : InRange rows s) 
   unfolding yielded moved_to
   yield_range partition = go (next_of rows s partition) refl
     where
-      go : (next : Found) → next_of rows s partition ≡ next → InRange rows (moved_to s partition next)
-      go Nobody e = r
-      go (At group) e =
+      go : (next : Option ℕ) → next_of rows s partition ≡ next → InRange rows (moved_to s partition next)
+      go None e = r
+      go (Some group) e =
           active_range rows s r partition group
           (record {
             below = next_counted rows s partition (omega (arith, f.counts.groups.0)) group e;
@@ -166,11 +162,11 @@ module _ (rows : List ℕ) (s : Programs) (f : Facts rows) (r : InRange rows s) 
       go PowerOff e = r
       go Panic e = r
 
-signal_range : (rows : List ℕ) (s : Programs) → InRange rows s → (sign : Signal) → InRange rows (signalled rows s sign)
+signal_range : (rows : List ℕ) (s : Programs) → InRange rows s → (sign : Option Signal) → InRange rows (signalled rows s sign)
 unfolding signalled event_pending
-signal_range rows s r signal.Nothing = r
-signal_range rows s r (signal.To subject event kick) =
-    woke_range rows (event_pending s subject event) (subject_range rows s r subject _) subject
+signal_range rows s r None = r
+signal_range rows s r (Some signal) =
+    woke_range rows (event_pending s signal.subject signal.event) (subject_range rows s r signal.subject _) signal.subject
 
 event_range : (rows : List ℕ) (s : Programs) (subject event : ℕ) → Facts rows → InRange rows s
     → InRange rows (handled rows s subject (source_event rows subject event))
@@ -180,7 +176,7 @@ event_range rows s subject event f r = signal_range rows _ (act_range rows s f r
 -- ---- an entry, and the start
 
 choice_range : (rows : List ℕ) (s : Programs) (partition group : ℕ) → partition < (counts_of rows).partitions
-    → chosen_group rows s partition ≡ At group → InRange rows s → InRange rows (with_active s partition group)
+    → chosen_group rows s partition ≡ Some group → InRange rows s → InRange rows (with_active s partition group)
 choice_range rows s partition group l e r =
     let active = r.group partition l in
     let w = rounds.within rows s partition group active.below active.here e in

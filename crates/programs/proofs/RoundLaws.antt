@@ -1,6 +1,7 @@
 -- The laws of the search (`specs/Rounds.antt`). Onward by k from g is g + k, or g + k less the number of groups past the last: so each
 -- group is met within one round and the last is g itself. The search stops at its first group that may run, by its own steps.
 -- Assumes nothing.
+use Rattle.std.specs.Prelude.{Option, Some, None}
 use Prim.Native.Nat.{ℕ, zero, suc, ◌+◌, ◌-◌, ◌≤◌, ◌<◌}
 use mathlib.Core.Bool.{Bool, true, false, cond, true≢false}
 use mathlib.Core.List.{List}
@@ -11,8 +12,6 @@ use lib.Dec.{ltb, eqb}
 use borrow.Author.Tests.{lt-ltb, le-ltb, ltb-true, eq-eqb, eqb-true}
 use Rattle.hexline.proofs.Cond.{by_cond, both}
 use Rattle.rows.specs.Lookups.{counts_of, partition_of}
-use Rattle.programs.specs.declared.round.Found.{Found}
-use Rattle.programs.specs.declared.round.Found.TheVariants.{Nobody, At}
 use Rattle.programs.specs.declared.whole.Programs.{Programs}
 use Rattle.programs.specs.Parts.{group_at, active_group}
 use Rattle.programs.specs.Round.{after, may_run, next_awake, next_of, chosen_group}
@@ -65,17 +64,17 @@ module _ (rows : List ℕ) (s : Programs) (q : ℕ) where
   abbrev groups : ℕ
   groups = (counts_of rows).groups
 
-  found_some : (h : ℕ) → Nobody ≡ At h → ⊥
+  found_some : (h : ℕ) → None ≡ Some h → ⊥
   found_some h e = let z : ◌≡◌ {A = ℕ} 0 1 = cc in omega arith
 
-  pub found : (n g h : ℕ) → next_awake rows s q n g ≡ At h → Next rows s q n g h
+  pub found : (n g h : ℕ) → next_awake rows s q n g ≡ Some h → Next rows s q n g h
   unfolding next_awake onward
   found zero g h e = absurd (found_some h e)
   found (suc n) g h e = go (may_run rows s q (after groups g)) refl e (found n (after groups g) h)
     where
       go : (b : Bool) → may_run rows s q (after groups g) ≡ b
-          → cond b (At (after groups g)) (next_awake rows s q n (after groups g)) ≡ At h
-          → (next_awake rows s q n (after groups g) ≡ At h → Next rows s q n (after groups g) h) → Next rows s q (suc n) g h
+          → cond b (Some (after groups g)) (next_awake rows s q n (after groups g)) ≡ Some h
+          → (next_awake rows s q n (after groups g) ≡ Some h → Next rows s q n (after groups g) h) → Next rows s q (suc n) g h
       go true u m ih =
           let k : after groups g ≡ h = cc in
           record {
@@ -103,14 +102,14 @@ module _ (rows : List ℕ) (s : Programs) (q : ℕ) where
           before k f (suc zero) a b = u
           before k f (suc (suc j)) a b = f (suc j) (omega arith) (omega arith)
 
-  none : (n g : ℕ) → next_awake rows s q n g ≡ Nobody → (j : ℕ) → 1 ≤ j → j ≤ n → may_run rows s q (onward groups j g) ≡ false
+  none : (n g : ℕ) → next_awake rows s q n g ≡ None → (j : ℕ) → 1 ≤ j → j ≤ n → may_run rows s q (onward groups j g) ≡ false
   unfolding next_awake onward
   none zero g e j a b = absurd (omega arith)
   none (suc n) g e j a b = go (may_run rows s q (after groups g)) refl e (none n (after groups g)) j a b
     where
       go : (b : Bool) → may_run rows s q (after groups g) ≡ b
-          → cond b (At (after groups g)) (next_awake rows s q n (after groups g)) ≡ Nobody
-          → (next_awake rows s q n (after groups g) ≡ Nobody
+          → cond b (Some (after groups g)) (next_awake rows s q n (after groups g)) ≡ None
+          → (next_awake rows s q n (after groups g) ≡ None
           → (j : ℕ) → 1 ≤ j → j ≤ n → may_run rows s q (onward groups j (after groups g)) ≡ false)
           → (j : ℕ) → 1 ≤ j → j ≤ suc n → may_run rows s q (onward groups j g) ≡ false
       go true u m ih j a b = absurd (found_some (after groups g) (sym m))
@@ -118,13 +117,13 @@ module _ (rows : List ℕ) (s : Programs) (q : ℕ) where
       go false u m ih (suc zero) a b = u
       go false u m ih (suc (suc j)) a b = ih m (suc j) (omega arith) (omega arith)
 
-  counted : (n g h : ℕ) → 0 < groups → next_awake rows s q n g ≡ At h → h < groups
+  counted : (n g h : ℕ) → 0 < groups → next_awake rows s q n g ≡ Some h → h < groups
   unfolding next_awake
   counted zero g h p e = absurd (found_some h e)
   counted (suc n) g h p e = go (may_run rows s q (after groups g)) e (counted n (after groups g) h p)
     where
-      go : (b : Bool) → cond b (At (after groups g)) (next_awake rows s q n (after groups g)) ≡ At h
-          → (next_awake rows s q n (after groups g) ≡ At h → h < groups) → h < groups
+      go : (b : Bool) → cond b (Some (after groups g)) (next_awake rows s q n (after groups g)) ≡ Some h
+          → (next_awake rows s q n (after groups g) ≡ Some h → h < groups) → h < groups
       go true m ih = let k : after groups g ≡ h = cc in rw k at (after_below groups g p)
       go false m ih = ih m
 
@@ -140,7 +139,7 @@ module _ (rows : List ℕ) (s : Programs) (q : ℕ) where
   abbrev active : ℕ
   active = active_group s q
 
-  nobody : active < groups → next_of rows s q ≡ Nobody → (g : ℕ) → g < groups → may_run rows s q g ≡ false
+  nobody : active < groups → next_of rows s q ≡ None → (g : ℕ) → g < groups → may_run rows s q g ≡ false
   unfolding next_of
   nobody l e g m =
       let k = every groups active g l m in
@@ -148,7 +147,7 @@ module _ (rows : List ℕ) (s : Programs) (q : ℕ) where
 
   -- ---- the group that an entry chooses
 
-  stays : (group_at s active).awake ≡ true → chosen_group rows s q ≡ At active
+  stays : (group_at s active).awake ≡ true → chosen_group rows s q ≡ Some active
   unfolding chosen_group
   stays e = rw e
 
@@ -158,49 +157,49 @@ module _ (rows : List ℕ) (s : Programs) (q : ℕ) where
 
   -- it is the active group, which is awake, or one that the search finds
   chosen_cases : (P : ℕ → Type 0) → ((group_at s active).awake ≡ true → P active)
-      → ((g : ℕ) → next_of rows s q ≡ At g → P g) → (g : ℕ) → chosen_group rows s q ≡ At g → P g
+      → ((g : ℕ) → next_of rows s q ≡ Some g → P g) → (g : ℕ) → chosen_group rows s q ≡ Some g → P g
   chosen_cases P here next g e = go (group_at s active).awake refl
     where
       go : (b : Bool) → (group_at s active).awake ≡ b → P g
       go true u = let k : active ≡ g = cc (sym (stays u) ∙ e) in subst P k (here u)
       go false u = next g (sym (moves u) ∙ e)
 
-  pub next_runs : (g : ℕ) → next_of rows s q ≡ At g → may_run rows s q g ≡ true
+  pub next_runs : (g : ℕ) → next_of rows s q ≡ Some g → may_run rows s q g ≡ true
   unfolding next_of
   next_runs g e = (found groups active g e).runs
 
-  pub next_counted : 0 < groups → (g : ℕ) → next_of rows s q ≡ At g → g < groups
+  pub next_counted : 0 < groups → (g : ℕ) → next_of rows s q ≡ Some g → g < groups
   unfolding next_of
   next_counted p g e = counted groups active g p e
 
-  awake : (g : ℕ) → chosen_group rows s q ≡ At g → (group_at s g).awake ≡ true
+  awake : (g : ℕ) → chosen_group rows s q ≡ Some g → (group_at s g).awake ≡ true
   awake = chosen_cases (λ g. (group_at s g).awake ≡ true) (λ u. u) (λ g e. (runs_here g (next_runs g e)).1)
 
-  within : (g : ℕ) → active < groups → partition_of rows active ≡ q → chosen_group rows s q ≡ At g
+  within : (g : ℕ) → active < groups → partition_of rows active ≡ q → chosen_group rows s q ≡ Some g
       → (g < groups) × (partition_of rows g ≡ q)
   within g l p =
       chosen_cases (λ h. (h < groups) × (partition_of rows h ≡ q)) (λ u. (l, p))
       (λ h e. (next_counted (omega arith) h e, (runs_here h (next_runs h e)).0)) g
 
   somebody : (g : ℕ) → active < groups → g < groups → partition_of rows g ≡ q → (group_at s g).awake ≡ true
-      → (h : ℕ) × (chosen_group rows s q ≡ At h)
+      → (h : ℕ) × (chosen_group rows s q ≡ Some h)
   somebody g l m p a = go (group_at s active).awake refl
     where
-      next : (f : Found) → next_of rows s q ≡ f → (h : ℕ) × (next_of rows s q ≡ At h)
-      next Nobody e = absurd (true≢false (sym (here_runs g p a) ∙ nobody l e g m))
-      next (At h) e = (h, e)
+      next : (f : Option ℕ) → next_of rows s q ≡ f → (h : ℕ) × (next_of rows s q ≡ Some h)
+      next None e = absurd (true≢false (sym (here_runs g p a) ∙ nobody l e g m))
+      next (Some h) e = (h, e)
 
-      go : (b : Bool) → (group_at s active).awake ≡ b → (h : ℕ) × (chosen_group rows s q ≡ At h)
+      go : (b : Bool) → (group_at s active).awake ≡ b → (h : ℕ) × (chosen_group rows s q ≡ Some h)
       go true u = (active, stays u)
       go false u = let n = next (next_of rows s q) refl in (n.0, moves u ∙ n.1)
 
   idle : active < groups → partition_of rows active ≡ q
-      → ((g : ℕ) → g < groups → partition_of rows g ≡ q → (group_at s g).awake ≡ false) → chosen_group rows s q ≡ Nobody
+      → ((g : ℕ) → g < groups → partition_of rows g ≡ q → (group_at s g).awake ≡ false) → chosen_group rows s q ≡ None
   idle l p f = moves (f active l p) ∙ go (next_of rows s q) refl
     where
-      go : (r : Found) → next_of rows s q ≡ r → r ≡ Nobody
-      go Nobody e = refl
-      go (At g) e =
+      go : (r : Option ℕ) → next_of rows s q ≡ r → r ≡ None
+      go None e = refl
+      go (Some g) e =
           let r = runs_here g (next_runs g e) in
           absurd (true≢false (sym r.1 ∙ f g (next_counted (omega arith) g e) r.0))
 

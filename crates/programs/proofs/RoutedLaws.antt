@@ -1,5 +1,7 @@
 -- Routed exactly: a routed vector is marked, its group woken (`SignalLaws`), its IRQ line masked, each read of every part once, by the
 -- cases of the route. An accepted policy routes to subjects and lines that it has (`Facts`).
+use Rattle.std.specs.Prelude.{Option, Some, None}
+use Rattle.meaning.specs.declared.answer.IrqLine.{IrqLine}
 use Prim.Native.Nat.{ℕ, ◌≤◌, ◌<◌}
 use mathlib.Core.Bool.{◌||◌}
 use mathlib.Core.List.{List}
@@ -11,10 +13,7 @@ use Rattle.bits.proofs.Sets.{one_word, four_words}
 use Rattle.rows.specs.Lookups.{counts_of}
 use Rattle.meaning.specs.declared.answer.HostVector.{HostVector}
 use Rattle.meaning.specs.declared.answer.SubjectVector.{SubjectVector}
-use Rattle.meaning.specs.declared.answer.Masking.{Masking}
-use Rattle.meaning.specs.declared.answer.Masking.TheVariants.{NoLine, Line}
 use Rattle.meaning.specs.declared.answer.Route.{Route}
-use Rattle.meaning.specs.declared.answer.Route.TheVariants as route
 use Rattle.meaning.specs.Lookups.{route_of}
 use Rattle.accepted.specs.Facts.{Facts, MaskingFits}
 use Rattle.programs.specs.declared.group.Group.{Group}
@@ -24,99 +23,98 @@ use Rattle.programs.specs.Records.{vector_marked}
 use Rattle.programs.specs.Parts.{group_at, subject_at, active_subject}
 use Rattle.programs.specs.Formed.{Formed}
 use Rattle.programs.specs.Signals.{vector_pending, masked, routed, interrupted}
-use Rattle.programs.specs.Exactly.{SubjectsKept, GroupsKept, ActiveSubjectsKept, ActiveGroupsKept, marks_vector, wakes_routed, masks_line, RoutedExactly}
+use Rattle.programs.specs.Exactly.{SubjectsKept, GroupsKept, ActiveSubjectsKept, ActiveGroupsKept, marks_vector, wakes_routed, is_line, masks_line, RoutedExactly}
 use Rattle.programs.proofs.PartLaws.{group_of_masks, subject_of_masks, active_of_masks, masks_same, masks_formed}
 use Rattle.programs.proofs.SignalLaws.{marked_at, woke_subjects, pending_awake, pending_active, pending_groups, pending_masks, pending_part, pending_formed, subject_inside, group_inside}
 
 -- ---- "its IRQ line, if any, is masked"
 
 module _ (s : Programs) where
-  pub masked_groups : (line : Masking) → GroupsKept s (masked s line)
+  pub masked_groups : (line : Option IrqLine) → GroupsKept s (masked s line)
   unfolding masked
-  masked_groups NoLine g = refl
-  masked_groups (Line line) g = group_of_masks s _ g
+  masked_groups None g = refl
+  masked_groups (Some line) g = group_of_masks s _ g
 
-  pub masked_subjects : (line : Masking) → SubjectsKept s (masked s line)
+  pub masked_subjects : (line : Option IrqLine) → SubjectsKept s (masked s line)
   unfolding masked
-  masked_subjects NoLine y = refl
-  masked_subjects (Line line) y = subject_of_masks s _ y
+  masked_subjects None y = refl
+  masked_subjects (Some line) y = subject_of_masks s _ y
 
-  pub masked_actives : (line : Masking) → ActiveGroupsKept s (masked s line)
+  pub masked_actives : (line : Option IrqLine) → ActiveGroupsKept s (masked s line)
   unfolding masked
-  masked_actives NoLine q = refl
-  masked_actives (Line line) q = active_of_masks s _ q
+  masked_actives None q = refl
+  masked_actives (Some line) q = active_of_masks s _ q
 
-  pub masked_masks : (x : ℕ) (v : SubjectVector) (line : Masking) → MaskingFits line → (l : ℕ)
-      → has64 (masked s line).masks l ≡ (masks_line (route.To x v line) l || has64 s.masks l)
+  pub masked_masks : (line : Option IrqLine) → MaskingFits line → (l : ℕ) → has64 (masked s line).masks l ≡ (is_line line l || has64 s.masks l)
   unfolding masked
-  masked_masks x v NoLine m l = refl
-  masked_masks x v (Line line) m l = ap (λ (a : Bits64). has64 a l) (masks_same s _) ∙ one_word.mark_has s.masks line.0 l (omega arith)
+  masked_masks None m l = refl
+  masked_masks (Some line) m l = ap (λ (a : Bits64). has64 a l) (masks_same s _) ∙ one_word.mark_has s.masks line.0 l (omega arith)
 
-  pub masked_formed : (line : Masking) → Formed s → Formed (masked s line)
+  pub masked_formed : (line : Option IrqLine) → Formed s → Formed (masked s line)
   unfolding masked
-  masked_formed NoLine f = f
-  masked_formed (Line line) f = masks_formed s _ f
+  masked_formed None f = f
+  masked_formed (Some line) f = masks_formed s _ f
 
 -- ---- routed exactly
 
-abbrev pub RouteFits : List ℕ → Route → Type 0
-RouteFits rows route.Nowhere = Unit
-RouteFits rows (route.To x v line) = (x < (counts_of rows).subjects) × ((v.0 ≤ 255) × MaskingFits line)
+abbrev pub RouteFits : List ℕ → Option Route → Type 0
+RouteFits rows None = Unit
+RouteFits rows (Some route) = (route.subject < (counts_of rows).subjects) × ((route.vector.0 ≤ 255) × MaskingFits route.line)
 
 module _ (rows : List ℕ) (h : Facts rows) where
   pub route_fits : (host : HostVector) → RouteFits rows (route_of rows host)
   route_fits host = go (route_of rows host) refl
     where
-      go : (r : Route) → route_of rows host ≡ r → RouteFits rows r
-      go route.Nowhere e = tt
-      go (route.To x v line) e = let k = h.routed host x v line e in (k.0, (k.1.1.0, k.1.1.1))
+      go : (r : Option Route) → route_of rows host ≡ r → RouteFits rows r
+      go None e = tt
+      go (Some route) e = let k = h.routed host route.subject route.vector route.line e in (k.0, (k.1.1.0, k.1.1.1))
 
 module _ (rows : List ℕ) (h : Facts rows) (s : Programs) (f : Formed s) where
-  routed_vectors : (r : Route) → RouteFits rows r → (y u : ℕ)
+  routed_vectors : (r : Option Route) → RouteFits rows r → (y u : ℕ)
       → has256 (subject_at (routed rows s r) y).vectors u ≡ (marks_vector r y u || has256 (subject_at s y).vectors u)
   unfolding routed vector_pending vector_marked
-  routed_vectors route.Nowhere k y u = refl
-  routed_vectors (route.To x v line) k y u =
-      ap (λ (a : Subject). has256 a.vectors u) (masked_subjects _ line y ∙ woke_subjects rows _ x y)
-      ∙ marked_at four_words (λ a. a.vectors) s x v.0 _ refl f (subject_inside rows h x k.0) (omega arith) y u
+  routed_vectors None k y u = refl
+  routed_vectors (Some route) k y u =
+      ap (λ (a : Subject). has256 a.vectors u) (masked_subjects _ route.line y ∙ woke_subjects rows _ route.subject y)
+      ∙ marked_at four_words (λ a. a.vectors) s route.subject route.vector.0 _ refl f (subject_inside rows h route.subject k.0) (omega arith) y u
 
-  routed_awake : (r : Route) → RouteFits rows r → (g : ℕ) → (group_at (routed rows s r) g).awake ≡ (wakes_routed rows r g || (group_at s g).awake)
+  routed_awake : (r : Option Route) → RouteFits rows r → (g : ℕ) → (group_at (routed rows s r) g).awake ≡ (wakes_routed rows r g || (group_at s g).awake)
   unfolding routed vector_pending
-  routed_awake route.Nowhere k g = refl
-  routed_awake (route.To x v line) k g =
-      ap (λ (a : Group). a.awake) (masked_groups _ line g) ∙ pending_awake rows s x _ g f (group_inside rows h x k.0)
+  routed_awake None k g = refl
+  routed_awake (Some route) k g =
+      ap (λ (a : Group). a.awake) (masked_groups _ route.line g) ∙ pending_awake rows s route.subject _ g f (group_inside rows h route.subject k.0)
 
-  routed_masks : (r : Route) → RouteFits rows r → (l : ℕ) → has64 (routed rows s r).masks l ≡ (masks_line r l || has64 s.masks l)
+  routed_masks : (r : Option Route) → RouteFits rows r → (l : ℕ) → has64 (routed rows s r).masks l ≡ (masks_line r l || has64 s.masks l)
   unfolding routed vector_pending
-  routed_masks route.Nowhere k l = refl
-  routed_masks (route.To x v line) k l =
-      masked_masks _ x v line k.1.1 l ∙ ap (λ (a : Bits64). masks_line (route.To x v line) l || has64 a l) (pending_masks rows s x _)
+  routed_masks None k l = refl
+  routed_masks (Some route) k l =
+      masked_masks _ route.line k.1.1 l ∙ ap (λ (a : Bits64). is_line route.line l || has64 a l) (pending_masks rows s route.subject _)
 
 module _ (rows : List ℕ) (s : Programs) where
   -- what a route does not mark in a subject is as before
-  pub routed_part : {B : Type 0} (part : Subject → B) → ((a : Subject) (v : SubjectVector) → part (vector_marked a v) ≡ part a) → (r : Route) (y : ℕ)
+  pub routed_part : {B : Type 0} (part : Subject → B) → ((a : Subject) (v : SubjectVector) → part (vector_marked a v) ≡ part a) → (r : Option Route) (y : ℕ)
       → part (subject_at (routed rows s r) y) ≡ part (subject_at s y)
   unfolding routed vector_pending
-  routed_part part e route.Nowhere y = refl
-  routed_part part e (route.To x v line) y = ap part (masked_subjects _ line y) ∙ pending_part rows s x _ part (e (subject_at s x) v) y
+  routed_part part e None y = refl
+  routed_part part e (Some route) y = ap part (masked_subjects _ route.line y) ∙ pending_part rows s route.subject _ part (e (subject_at s route.subject) route.vector) y
 
-  pub routed_active : (r : Route) → ActiveSubjectsKept s (routed rows s r)
+  pub routed_active : (r : Option Route) → ActiveSubjectsKept s (routed rows s r)
   unfolding routed vector_pending active_subject
-  routed_active route.Nowhere g = refl
-  routed_active (route.To x v line) g = ap (λ (a : Group). a.active) (masked_groups _ line g) ∙ pending_active rows s x _ g
+  routed_active None g = refl
+  routed_active (Some route) g = ap (λ (a : Group). a.active) (masked_groups _ route.line g) ∙ pending_active rows s route.subject _ g
 
-  pub routed_groups : (r : Route) → ActiveGroupsKept s (routed rows s r)
+  pub routed_groups : (r : Option Route) → ActiveGroupsKept s (routed rows s r)
   unfolding routed vector_pending
-  routed_groups route.Nowhere q = refl
-  routed_groups (route.To x v line) q = masked_actives _ line q ∙ pending_groups rows s x _ q
+  routed_groups None q = refl
+  routed_groups (Some route) q = masked_actives _ route.line q ∙ pending_groups rows s route.subject _ q
 
-  pub routed_formed : (r : Route) → Formed s → Formed (routed rows s r)
+  pub routed_formed : (r : Option Route) → Formed s → Formed (routed rows s r)
   unfolding routed vector_pending
-  routed_formed route.Nowhere f = f
-  routed_formed (route.To x v line) f = masked_formed _ line (pending_formed rows s x _ f)
+  routed_formed None f = f
+  routed_formed (Some route) f = masked_formed _ route.line (pending_formed rows s route.subject _ f)
 
 -- "Others .. do nothing"
-routed_nowhere : (rows : List ℕ) (s : Programs) (r : Route) → r ≡ route.Nowhere → routed rows s r ≡ s
+routed_nowhere : (rows : List ℕ) (s : Programs) (r : Option Route) → r ≡ None → routed rows s r ≡ s
 unfolding routed
 routed_nowhere rows s r e = ap (routed rows s) e
 

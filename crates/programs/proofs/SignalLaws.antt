@@ -1,5 +1,6 @@
 -- What becomes pending, and who wakes: a stored part is read where it was stored and nowhere else (`PartLaws`), and a mark adds one number
 -- to one set (`bits`). First what an interrupt and a target event have in common, then the target event.
+use Rattle.std.specs.Prelude.{Option, Some, None}
 use Prim.Native.Nat.{ℕ, ◌<◌}
 use mathlib.Core.Bool.{Bool, true, false, cond, ◌&&◌, ◌||◌}
 use mathlib.Core.List.{List}
@@ -7,13 +8,11 @@ use mathlib.Core.Path.{◌≡◌, refl, ap, ◌∙◌}
 use native.Mathlib.Omega.{arith}
 use lib.Dec.{eqb}
 use borrow.Author.Tests.{eqb-true}
-use Rattle.bits.specs.declared.top.Highest.{Highest}
 use Rattle.bits.specs.Sets.{has64}
 use Rattle.bits.specs.Lawful.{SetLaws}
 use Rattle.bits.proofs.Sets.{one_word}
 use Rattle.rows.specs.Lookups.{counts_of, group_of}
 use Rattle.meaning.specs.declared.answer.Signal.{Signal}
-use Rattle.meaning.specs.declared.answer.Signal.TheVariants as signal
 use Rattle.accepted.specs.Facts.{Facts}
 use Rattle.programs.specs.declared.group.Group.{Group}
 use Rattle.programs.specs.declared.subject.Subject.{Subject}
@@ -28,7 +27,7 @@ use Rattle.programs.proofs.PartLaws.{group_stored, group_kept, subject_of_group,
 -- ---- a number marked in a set of one subject
 
 module _ {S : Type 0} {n : ℕ} {Fit : S → Type 0} {has : S → ℕ → Bool} {none : S}
-    {mark clear : S → ℕ → S} {empty : S → Bool} {highest : S → Highest}
+    {mark clear : S → ℕ → S} {empty : S → Bool} {highest : S → Option ℕ}
     (laws : SetLaws S n Fit has none mark clear empty highest) (part : Subject → S) where
   pub marked_at : (s : Programs) (x v : ℕ) (z : Subject) → part z ≡ mark (part (subject_at s x)) v → Formed s → x < 16 → v < n → (y u : ℕ)
       → has (part (subject_at (with_subject s x z) y)) u ≡ ((eqb y x && eqb u v) || has (part (subject_at s y)) u)
@@ -107,43 +106,43 @@ module _ (rows : List ℕ) (h : Facts rows) where
 -- ---- "the target event, if it has one, is marked pending and the target's group wakes"
 
 module _ (rows : List ℕ) (h : Facts rows) (s : Programs) (f : Formed s) where
-  pub signalled_events : (a : Signal) → SignalFits rows a → (y e : ℕ)
+  pub signalled_events : (a : Option Signal) → SignalFits rows a → (y e : ℕ)
       → has64 (subject_at (signalled rows s a) y).events e ≡ (marks_event a y e || has64 (subject_at s y).events e)
   unfolding signalled event_pending event_marked
-  signalled_events signal.Nothing k y e = refl
-  signalled_events (signal.To t event kick) k y e =
-      ap (λ (z : Subject). has64 z.events e) (woke_subjects rows _ t y)
-      ∙ marked_at one_word (λ z. z.events) s t event _ refl f (subject_inside rows h t k.0) (omega arith) y e
+  signalled_events None k y e = refl
+  signalled_events (Some signal) k y e =
+      ap (λ (z : Subject). has64 z.events e) (woke_subjects rows _ signal.subject y)
+      ∙ marked_at one_word (λ z. z.events) s signal.subject signal.event _ refl f (subject_inside rows h signal.subject k.0) (omega arith) y e
 
-  pub signalled_awake : (a : Signal) → SignalFits rows a → (g : ℕ) → (group_at (signalled rows s a) g).awake ≡ (wakes_target rows a g || (group_at s g).awake)
+  pub signalled_awake : (a : Option Signal) → SignalFits rows a → (g : ℕ) → (group_at (signalled rows s a) g).awake ≡ (wakes_target rows a g || (group_at s g).awake)
   unfolding signalled event_pending
-  signalled_awake signal.Nothing k g = refl
-  signalled_awake (signal.To t event kick) k g = pending_awake rows s t _ g f (group_inside rows h t k.0)
+  signalled_awake None k g = refl
+  signalled_awake (Some signal) k g = pending_awake rows s signal.subject _ g f (group_inside rows h signal.subject k.0)
 
 module _ (rows : List ℕ) (s : Programs) where
   -- what a signal does not mark in a subject is as before
-  pub signalled_part : {B : Type 0} (part : Subject → B) → ((z : Subject) (e : ℕ) → part (event_marked z e) ≡ part z) → (a : Signal) (y : ℕ)
+  pub signalled_part : {B : Type 0} (part : Subject → B) → ((z : Subject) (e : ℕ) → part (event_marked z e) ≡ part z) → (a : Option Signal) (y : ℕ)
       → part (subject_at (signalled rows s a) y) ≡ part (subject_at s y)
   unfolding signalled event_pending
-  signalled_part part e signal.Nothing y = refl
-  signalled_part part e (signal.To t event kick) y = pending_part rows s t _ part (e (subject_at s t) event) y
+  signalled_part part e None y = refl
+  signalled_part part e (Some signal) y = pending_part rows s signal.subject _ part (e (subject_at s signal.subject) signal.event) y
 
-  pub signalled_active : (a : Signal) → ActiveSubjectsKept s (signalled rows s a)
+  pub signalled_active : (a : Option Signal) → ActiveSubjectsKept s (signalled rows s a)
   unfolding signalled event_pending
-  signalled_active signal.Nothing g = refl
-  signalled_active (signal.To t event kick) g = pending_active rows s t _ g
+  signalled_active None g = refl
+  signalled_active (Some signal) g = pending_active rows s signal.subject _ g
 
-  pub signalled_groups : (a : Signal) → ActiveGroupsKept s (signalled rows s a)
+  pub signalled_groups : (a : Option Signal) → ActiveGroupsKept s (signalled rows s a)
   unfolding signalled event_pending
-  signalled_groups signal.Nothing q = refl
-  signalled_groups (signal.To t event kick) q = pending_groups rows s t _ q
+  signalled_groups None q = refl
+  signalled_groups (Some signal) q = pending_groups rows s signal.subject _ q
 
-  pub signalled_masks : (a : Signal) → (signalled rows s a).masks ≡ s.masks
+  pub signalled_masks : (a : Option Signal) → (signalled rows s a).masks ≡ s.masks
   unfolding signalled event_pending
-  signalled_masks signal.Nothing = refl
-  signalled_masks (signal.To t event kick) = pending_masks rows s t _
+  signalled_masks None = refl
+  signalled_masks (Some signal) = pending_masks rows s signal.subject _
 
-  pub signalled_formed : (a : Signal) → Formed s → Formed (signalled rows s a)
+  pub signalled_formed : (a : Option Signal) → Formed s → Formed (signalled rows s a)
   unfolding signalled event_pending
-  signalled_formed signal.Nothing f = f
-  signalled_formed (signal.To t event kick) f = pending_formed rows s t _ f
+  signalled_formed None f = f
+  signalled_formed (Some signal) f = pending_formed rows s signal.subject _ f

@@ -1,5 +1,6 @@
 -- What each action changes, exactly, and then a source event: its action leaves the subjects, its target event is marked as `SignalLaws`
 -- says. A sleep with something pending in its group is a yield (`PendingLaws`).
+use Rattle.std.specs.Prelude.{Option, Some, None}
 use Prim.Native.Nat.{ℕ, ◌<◌}
 use mathlib.Core.Bool.{Bool, true, false, not, cond, ◌&&◌, ◌||◌}
 use mathlib.Core.List.{List}
@@ -15,13 +16,10 @@ use Rattle.meaning.specs.declared.answer.IrqLine.{IrqLine}
 use Rattle.meaning.specs.declared.answer.Action.{Action}
 use Rattle.meaning.specs.declared.answer.Action.TheVariants.{Nothing, Sleep, Yield, Handover, Unmask, Reboot, PowerOff, Panic}
 use Rattle.meaning.specs.declared.answer.Signal.{Signal}
-use Rattle.meaning.specs.declared.answer.Signal.TheVariants as signal
 use Rattle.meaning.specs.declared.answer.SourceEvent.{SourceEvent}
 use Rattle.meaning.specs.Lookups.{source_event}
 use Rattle.accepted.specs.Facts.{Facts}
 use Rattle.programs.specs.declared.group.Group.{Group}
-use Rattle.programs.specs.declared.round.Found.{Found}
-use Rattle.programs.specs.declared.round.Found.TheVariants.{Nobody, At}
 use Rattle.programs.specs.declared.subject.Subject.{Subject}
 use Rattle.programs.specs.declared.whole.Programs.{Programs}
 use Rattle.programs.specs.Records.{asleep, handed_to, event_marked}
@@ -37,31 +35,31 @@ use Rattle.programs.proofs.SignalLaws.{group_inside, signalled_events, signalled
 -- ---- "that one becomes active"
 
 module _ (rows : List ℕ) (s : Programs) (partition : ℕ) where
-  pub moved_subjects : (found : Found) → SubjectsKept s (moved_to s partition found)
+  pub moved_subjects : (found : Option ℕ) → SubjectsKept s (moved_to s partition found)
   unfolding moved_to
-  moved_subjects Nobody y = refl
-  moved_subjects (At g) y = subject_of_active s partition g y
+  moved_subjects None y = refl
+  moved_subjects (Some g) y = subject_of_active s partition g y
 
-  pub moved_groups : (found : Found) → GroupsKept s (moved_to s partition found)
+  pub moved_groups : (found : Option ℕ) → GroupsKept s (moved_to s partition found)
   unfolding moved_to
-  moved_groups Nobody g = refl
-  moved_groups (At h) g = group_of_active s partition h g
+  moved_groups None g = refl
+  moved_groups (Some h) g = group_of_active s partition h g
 
-  pub moved_formed : (found : Found) → Formed s → Formed (moved_to s partition found)
+  pub moved_formed : (found : Option ℕ) → Formed s → Formed (moved_to s partition found)
   unfolding moved_to
-  moved_formed Nobody f = f
-  moved_formed (At h) f = active_formed s partition h f
+  moved_formed None f = f
+  moved_formed (Some h) f = active_formed s partition h f
 
-  pub moved_exactly : Formed s → partition < 8 → (found : Found) → next_of rows s partition ≡ found → Moved rows partition s (moved_to s partition found)
+  pub moved_exactly : Formed s → partition < 8 → (found : Option ℕ) → next_of rows s partition ≡ found → Moved rows partition s (moved_to s partition found)
   unfolding moved_to
-  moved_exactly f l Nobody e = record {
+  moved_exactly f l None e = record {
     becomes_active = λ g q. let z : ◌≡◌ {A = ℕ} 0 1 = cc in absurd (omega arith);
     stays = λ q. refl;
     others = λ q d. refl;
     groups = λ g. refl;
     masks = refl;
   }
-  moved_exactly f l (At h) e = record {
+  moved_exactly f l (Some h) e = record {
     becomes_active = λ g q. let z : h ≡ g = cc in active_same s partition h f l ∙ z;
     stays = λ q. let z : ◌≡◌ {A = ℕ} 0 1 = cc in absurd (omega arith);
     others = λ q d. active_other s partition h q d;
@@ -193,6 +191,6 @@ handled_formed rows s x event f = signalled_formed rows _ event.signal (acted_fo
 pub listed_fits : (rows : List ℕ) (x n : ℕ) → Facts rows → SignalFits rows (source_event rows x n).signal
 listed_fits rows x n h = go (source_event rows x n).signal refl
   where
-    go : (a : Signal) → (source_event rows x n).signal ≡ a → SignalFits rows a
-    go signal.Nothing e = tt
-    go (signal.To t event kick) e = h.signalled x n t event kick e
+    go : (a : Option Signal) → (source_event rows x n).signal ≡ a → SignalFits rows a
+    go None e = tt
+    go (Some signal) e = h.signalled x n signal.subject signal.event signal.kick e

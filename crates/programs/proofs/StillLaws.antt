@@ -1,5 +1,6 @@
 -- What an interrupt and a source event leave alone, from what they change exactly: where a mark is added, those before are still there;
 -- and only its own partition and group are moved by an action.
+use Rattle.std.specs.Prelude.{Option, Some, None}
 use Prim.Native.Nat.{ℕ}
 use mathlib.Core.Bool.{Bool, true, false, cond, ◌||◌}
 use mathlib.Core.List.{List}
@@ -16,8 +17,6 @@ use Rattle.meaning.specs.declared.answer.SourceEvent.{SourceEvent}
 use Rattle.meaning.specs.Lookups.{route_of}
 use Rattle.accepted.specs.Facts.{Facts}
 use Rattle.programs.specs.declared.group.Group.{Group}
-use Rattle.programs.specs.declared.round.Found.{Found}
-use Rattle.programs.specs.declared.round.Found.TheVariants.{Nobody, At}
 use Rattle.programs.specs.declared.whole.Programs.{Programs}
 use Rattle.programs.specs.Parts.{group_at, active_group, active_subject, with_group}
 use Rattle.programs.specs.Formed.{Formed}
@@ -49,7 +48,7 @@ no_switch rows s host h f =
     }
   where
     go : (g q : ℕ) → g ≡ active_group s q → (group_at (interrupted rows s host) (active_group s q)).awake ≡ true
-        → cond (group_at (interrupted rows s host) g).awake (At g) (next_of rows (interrupted rows s host) q) ≡ At (active_group s q)
+        → cond (group_at (interrupted rows s host) g).awake (Some g) (next_of rows (interrupted rows s host) q) ≡ Some (active_group s q)
     go g q e w = rw (e, w)
 
 -- ---- an action of subject x: other partitions, other groups
@@ -63,13 +62,13 @@ module _ (rows : List ℕ) (s : Programs) (x : ℕ) where
   all_still : Elsewhere rows s x s
   all_still = record { active_groups = λ q d. refl; groups = λ g d. refl }
 
-  moved_still : (found : Found) → Elsewhere rows s x (moved_to s (partition_of rows (group_of rows x)) found)
+  moved_still : (found : Option ℕ) → Elsewhere rows s x (moved_to s (partition_of rows (group_of rows x)) found)
   unfolding moved_to
   moved_still found = record { active_groups = λ q d. at q d found; groups = λ g d. moved_groups rows s _ found g }
     where
-      at : (q : ℕ) → (q ≡ partition_of rows (group_of rows x) → ⊥) → (m : Found) → active_group (moved_to s (partition_of rows (group_of rows x)) m) q ≡ active_group s q
-      at q d Nobody = refl
-      at q d (At g) = active_other s _ g q d
+      at : (q : ℕ) → (q ≡ partition_of rows (group_of rows x) → ⊥) → (m : Option ℕ) → active_group (moved_to s (partition_of rows (group_of rows x)) m) q ≡ active_group s q
+      at q d None = refl
+      at q d (Some g) = active_other s _ g q d
 
   stored_still : (z : Group) → Elsewhere rows s x (with_group s (group_of rows x) z)
   stored_still z = record { active_groups = λ q d. active_of_group s _ z q; groups = λ g d. group_other s _ z g d }

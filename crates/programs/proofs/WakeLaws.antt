@@ -1,5 +1,6 @@
 -- No wake is lost. A step marks something only for a subject whose group it wakes; and a group falls asleep only where no subject of it
 -- has anything pending. So whoever has something pending afterwards had it before, in a group still awake, or was just woken.
+use Rattle.std.specs.Prelude.{Option, Some, None}
 use Prim.Native.Nat.{ℕ, ◌<◌}
 use mathlib.Core.Bool.{Bool, true, false, ◌||◌, true≢false}
 use mathlib.Core.List.{List}
@@ -12,9 +13,7 @@ use Rattle.hexline.proofs.Cond.{by_cond}
 use Rattle.meaning.specs.declared.answer.Action.{Action}
 use Rattle.meaning.specs.declared.answer.Action.TheVariants.{Nothing, Sleep, Yield, Handover, Unmask, Reboot, PowerOff, Panic}
 use Rattle.meaning.specs.declared.answer.Route.{Route}
-use Rattle.meaning.specs.declared.answer.Route.TheVariants as route
 use Rattle.meaning.specs.declared.answer.Signal.{Signal}
-use Rattle.meaning.specs.declared.answer.Signal.TheVariants as signal
 use Rattle.meaning.specs.Lookups.{route_of}
 use Rattle.accepted.specs.Facts.{Facts}
 use Rattle.programs.specs.declared.group.Group.{Group}
@@ -86,10 +85,10 @@ module _ (rows : List ℕ) (s : Programs) (n : NoLostWake rows s) where
   acted_wakes x PowerOff = n
   acted_wakes x Panic = n
 
-  signalled_wakes : (a : Signal) → Facts rows → Formed s → SignalFits rows a → NoLostWake rows (signalled rows s a)
+  signalled_wakes : (a : Option Signal) → Facts rows → Formed s → SignalFits rows a → NoLostWake rows (signalled rows s a)
   unfolding signalled event_pending
-  signalled_wakes signal.Nothing h f k = n
-  signalled_wakes (signal.To t event kick) h f k = pending_wakes t _ h f k.0
+  signalled_wakes None h f k = n
+  signalled_wakes (Some signal) h f k = pending_wakes signal.subject _ h f k.0
 
   entered_wakes : (x : ℕ) → (group_at s (group_of rows x)).awake ≡ true → NoLostWake rows (entering rows s x).programs
   unfolding entering
@@ -108,11 +107,11 @@ module _ (rows : List ℕ) (s : Programs) (n : NoLostWake rows s) where
   opened_wakes x flag = same_wakes _ (λ y. pending_same (subject_at (with_subject s x (opened_to (subject_at s x) flag)) y) (subject_at s y) (subject_kept s x _ (λ a. a.events) refl y) (subject_kept s x _ (λ a. a.vectors) refl y)) (λ g. ap (λ (a : Group). a.awake) (group_of_subject s x _ g))
 
 -- a vector marked for a subject, its group woken, its line masked
-routed_wakes : (rows : List ℕ) (s : Programs) → NoLostWake rows s → (r : Route) → Facts rows → Formed s → RouteFits rows r → NoLostWake rows (routed rows s r)
+routed_wakes : (rows : List ℕ) (s : Programs) → NoLostWake rows s → (r : Option Route) → Facts rows → Formed s → RouteFits rows r → NoLostWake rows (routed rows s r)
 unfolding routed vector_pending
-routed_wakes rows s n route.Nowhere h f k = n
-routed_wakes rows s n (route.To x v line) h f k =
-    kept_wakes rows _ (pending_wakes rows s n x _ h f k.0) _ (masked_subjects _ line) (masked_groups _ line)
+routed_wakes rows s n None h f k = n
+routed_wakes rows s n (Some route) h f k =
+    kept_wakes rows _ (pending_wakes rows s n route.subject _ h f k.0) _ (masked_subjects _ route.line) (masked_groups _ route.line)
 
 -- nothing is pending at the start
 fresh_wakes : (rows : List ℕ) → NoLostWake rows (fresh_programs rows)

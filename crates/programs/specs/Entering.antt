@@ -1,8 +1,6 @@
 -- "Entry", what it does to the subject that is entered: "Its active subject's highest pending event is taken: inject marks the vector
 -- pending for it; reset clears its 256 pending vectors, .. and closes it. If open, its highest pending vector is taken and injected."
-use Rattle.std.specs.Prelude.{ℕ, true, false, cond, List}
-use Rattle.bits.specs.declared.top.Highest.{Highest}
-use Rattle.bits.specs.declared.top.Highest.TheVariants as top
+use Rattle.std.specs.Prelude.{ℕ, true, false, cond, List, Option, Some, None}
 use Rattle.bits.specs.Sets.{highest64, highest256}
 use Rattle.meaning.specs.declared.answer.TargetAction.{TargetAction}
 use Rattle.meaning.specs.declared.answer.TargetAction.TheVariants as target
@@ -22,22 +20,22 @@ reacted x (target.Inject vector) = record { subject = vector_marked x vector; re
 reacted x target.Reset = record { subject = resetted x; reset = true }
 
 -- the highest pending event, if there is one
-unfoldable pub event_taken_at : List ℕ → ℕ → Subject → Highest → Taken
-event_taken_at rows number x top.Nothing = record { subject = x; reset = false }
-event_taken_at rows number x (top.At event) = reacted (event_cleared x event) (target_event rows number event)
+unfoldable pub event_taken_at : List ℕ → ℕ → Subject → Option ℕ → Taken
+event_taken_at rows number x None = record { subject = x; reset = false }
+event_taken_at rows number x (Some event) = reacted (event_cleared x event) (target_event rows number event)
 
 -- "highest pending event is taken", of the subject of a number
 unfoldable pub event_taken : List ℕ → ℕ → Subject → Taken
 event_taken rows number x = event_taken_at rows number x (highest64 x.events)
 
 -- the highest pending vector, if there is one
-unfoldable pub vector_taken_at : Subject → Highest → Injection
-vector_taken_at x top.Nothing = record { subject = x; vector = top.Nothing }
-vector_taken_at x (top.At vector) = record { subject = vector_cleared x (record { 0 = vector }); vector = top.At vector }
+unfoldable pub vector_taken_at : Subject → Option ℕ → Injection
+vector_taken_at x None = record { subject = x; vector = None }
+vector_taken_at x (Some vector) = record { subject = vector_cleared x (record { 0 = vector }); vector = Some vector }
 
 -- "If open, its highest pending vector is taken and injected"
 unfoldable pub vector_taken : Subject → Injection
-vector_taken x = cond x.«open» (vector_taken_at x (highest256 x.vectors)) (record { subject = x; vector = top.Nothing })
+vector_taken x = cond x.«open» (vector_taken_at x (highest256 x.vectors)) (record { subject = x; vector = None })
 
 -- the subject of a number is entered
 unfoldable pub entering : List ℕ → Programs → ℕ → Entering

@@ -1,9 +1,7 @@
 -- What an entry takes of the subject that is entered, exactly: "Its active subject's highest pending event is taken: inject marks the
 -- vector pending for it; reset clears its 256 pending vectors, .. and closes it. If open, its highest pending vector is taken and
 -- injected." Sets by their members; nothing else is touched.
-use Rattle.std.specs.Prelude.{ℕ, Bool, true, false, not, ◌&&◌, ◌||◌, List, ◌≡◌, eqb}
-use Rattle.bits.specs.declared.top.Highest.{Highest}
-use Rattle.bits.specs.declared.top.Highest.TheVariants as top
+use Rattle.std.specs.Prelude.{ℕ, Bool, true, false, not, ◌&&◌, ◌||◌, List, ◌≡◌, eqb, Option, Some, None}
 use Rattle.bits.specs.Members.{NoneBelow, Top}
 use Rattle.bits.specs.Sets.{has64, has256}
 use Rattle.meaning.specs.declared.answer.TargetAction.{TargetAction}
@@ -37,19 +35,19 @@ resets target.Reset = true
 -- ---- the vector
 
 -- the vectors afterwards are those pending then, without the one injected
-pub record VectorTaken (test : ℕ → Bool) (after : Subject) (injected : Highest) : Type 0 where
-  pub none : injected ≡ top.Nothing → (u : ℕ) → has256 after.vectors u ≡ test u
-  pub one : (v : ℕ) → injected ≡ top.At v → (u : ℕ) → has256 after.vectors u ≡ (not (eqb u v) && test u)
+pub record VectorTaken (test : ℕ → Bool) (after : Subject) (injected : Option ℕ) : Type 0 where
+  pub none : injected ≡ None → (u : ℕ) → has256 after.vectors u ≡ test u
+  pub one : (v : ℕ) → injected ≡ Some v → (u : ℕ) → has256 after.vectors u ≡ (not (eqb u v) && test u)
 
 -- a subject before, the event taken with its action (`taken` holds of that event alone), and what is left
-pub record Entered (x : Subject) (taken : ℕ → Bool) (action : TargetAction) (after : Subject) (reset : Bool) (injected : Highest) : Type 0 where
+pub record Entered (x : Subject) (taken : ℕ → Bool) (action : TargetAction) (after : Subject) (reset : Bool) (injected : Option ℕ) : Type 0 where
   pub events : (e : ℕ) → has64 after.events e ≡ (not (taken e) && has64 x.events e)
   pub opened : after.«open» ≡ open_then action x
   pub reset_said : reset ≡ resets action
   -- "If open, its highest pending vector is taken and injected"
-  pub closed : open_then action x ≡ false → injected ≡ top.Nothing
-  pub none_pending : NoneBelow (pending_then action x) 256 → injected ≡ top.Nothing
-  pub highest : (v : ℕ) → open_then action x ≡ true → Top (pending_then action x) 256 v → injected ≡ top.At v
+  pub closed : open_then action x ≡ false → injected ≡ None
+  pub none_pending : NoneBelow (pending_then action x) 256 → injected ≡ None
+  pub highest : (v : ℕ) → open_then action x ≡ true → Top (pending_then action x) 256 v → injected ≡ Some v
   pub vectors : VectorTaken (pending_then action x) after injected
 
 -- ---- the entry

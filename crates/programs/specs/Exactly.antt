@@ -1,20 +1,16 @@
 -- What an interrupt, an action and a target event change, exactly: every vector, event, group, active group and IRQ line is named, changed
 -- or not. Sets by their members. `s` are the programs before.
-use Rattle.std.specs.Prelude.{ℕ, ◌≤◌, ◌<◌, Bool, true, false, not, ◌&&◌, ◌||◌, List, ◌⊎◌, ◌≡◌, eqb}
+use Rattle.std.specs.Prelude.{ℕ, ◌≤◌, ◌<◌, Bool, true, false, not, ◌&&◌, ◌||◌, List, ◌⊎◌, ◌≡◌, eqb, Some, None, Option}
 use Rattle.bits.specs.Sets.{has64, has256}
 use Rattle.rows.specs.Lookups.{counts_of, partition_of, group_of}
 use Rattle.meaning.specs.declared.answer.HostVector.{HostVector}
 use Rattle.meaning.specs.declared.answer.IrqLine.{IrqLine}
-use Rattle.meaning.specs.declared.answer.Masking.TheVariants.{NoLine, Line}
 use Rattle.meaning.specs.declared.answer.Route.{Route}
-use Rattle.meaning.specs.declared.answer.Route.TheVariants as route
 use Rattle.meaning.specs.declared.answer.Action.{Action}
 use Rattle.meaning.specs.declared.answer.Action.TheVariants as action
 use Rattle.meaning.specs.declared.answer.Signal.{Signal}
-use Rattle.meaning.specs.declared.answer.Signal.TheVariants as signal
 use Rattle.meaning.specs.declared.answer.SourceEvent.{SourceEvent}
 use Rattle.meaning.specs.Lookups.{route_of}
-use Rattle.programs.specs.declared.round.Found.TheVariants.{Nobody, At}
 use Rattle.programs.specs.declared.subject.Subject.{Subject}
 use Rattle.programs.specs.declared.whole.Programs.{Programs}
 use Rattle.programs.specs.Parts.{group_at, subject_at, active_group, active_subject}
@@ -39,23 +35,26 @@ ActiveGroupsKept s t = (q : ℕ) → active_group t q ≡ active_group s q
 -- ---- "A routed vector becomes pending for its subject under the subject vector, wakes its group, and its IRQ line, if any, is masked"
 
 -- the one vector of the one subject that a route marks
-abbrev pub marks_vector : Route → ℕ → ℕ → Bool
-marks_vector route.Nowhere y u = false
-marks_vector (route.To x v line) y u = eqb y x && eqb u v.0
+abbrev pub marks_vector : Option Route → ℕ → ℕ → Bool
+marks_vector None y u = false
+marks_vector (Some route) y u = eqb y route.subject && eqb u route.vector.0
 
-abbrev pub wakes_routed : List ℕ → Route → ℕ → Bool
-wakes_routed rows route.Nowhere g = false
-wakes_routed rows (route.To x v line) g = eqb g (group_of rows x)
+abbrev pub wakes_routed : List ℕ → Option Route → ℕ → Bool
+wakes_routed rows None g = false
+wakes_routed rows (Some route) g = eqb g (group_of rows route.subject)
 
-abbrev pub masks_line : Route → ℕ → Bool
-masks_line route.Nowhere l = false
-masks_line (route.To x v NoLine) l = false
-masks_line (route.To x v (Line line)) l = eqb l line.0
+abbrev pub is_line : Option IrqLine → ℕ → Bool
+is_line None l = false
+is_line (Some line) l = eqb l line.0
+
+abbrev pub masks_line : Option Route → ℕ → Bool
+masks_line None l = false
+masks_line (Some route) l = is_line route.line l
 
 -- by the route of the whole host vector
 pub record RoutedExactly (rows : List ℕ) (s : Programs) (host : HostVector) : Type 0 where
   -- "Others, 253 and 254 included, do nothing"
-  pub nowhere : route_of rows host ≡ route.Nowhere → interrupted rows s host ≡ s
+  pub nowhere : route_of rows host ≡ None → interrupted rows s host ≡ s
   pub vectors : (y u : ℕ)
       → has256 (subject_at (interrupted rows s host) y).vectors u ≡ (marks_vector (route_of rows host) y u || has256 (subject_at s y).vectors u)
   pub awake : (g : ℕ) → (group_at (interrupted rows s host) g).awake ≡ (wakes_routed rows (route_of rows host) g || (group_at s g).awake)
@@ -77,8 +76,8 @@ pub record FellAsleep (group : ℕ) (s t : Programs) : Type 0 where
 
 -- "that one becomes active": at most the active group of the one partition
 pub record Moved (rows : List ℕ) (partition : ℕ) (s t : Programs) : Type 0 where
-  pub becomes_active : (g : ℕ) → next_of rows s partition ≡ At g → active_group t partition ≡ g
-  pub stays : next_of rows s partition ≡ Nobody → t ≡ s
+  pub becomes_active : (g : ℕ) → next_of rows s partition ≡ Some g → active_group t partition ≡ g
+  pub stays : next_of rows s partition ≡ None → t ≡ s
   pub others : (q : ℕ) → (q ≡ partition → ⊥) → active_group t q ≡ active_group s q
   pub groups : GroupsKept s t
   pub masks : t.masks ≡ s.masks
@@ -124,18 +123,18 @@ pub record ActedExactly (rows : List ℕ) (s : Programs) (x : ℕ) : Type 0 wher
 -- ---- "Then the target event, if it has one, is marked pending and the target's group wakes"
 
 -- a target that the policy has, and "target event 0-31"
-abbrev pub SignalFits : List ℕ → Signal → Type 0
-SignalFits rows signal.Nothing = Unit
-SignalFits rows (signal.To t e kick) = (t < (counts_of rows).subjects) × (e ≤ 31)
+abbrev pub SignalFits : List ℕ → Option Signal → Type 0
+SignalFits rows None = Unit
+SignalFits rows (Some signal) = (signal.subject < (counts_of rows).subjects) × (signal.event ≤ 31)
 
 -- the one event of the one subject that a signal marks
-abbrev pub marks_event : Signal → ℕ → ℕ → Bool
-marks_event signal.Nothing y f = false
-marks_event (signal.To t e kick) y f = eqb y t && eqb f e
+abbrev pub marks_event : Option Signal → ℕ → ℕ → Bool
+marks_event None y f = false
+marks_event (Some signal) y f = eqb y signal.subject && eqb f signal.event
 
-abbrev pub wakes_target : List ℕ → Signal → ℕ → Bool
-wakes_target rows signal.Nothing g = false
-wakes_target rows (signal.To t e kick) g = eqb g (group_of rows t)
+abbrev pub wakes_target : List ℕ → Option Signal → ℕ → Bool
+wakes_target rows None g = false
+wakes_target rows (Some signal) g = eqb g (group_of rows signal.subject)
 
 -- a source event of subject x
 pub record SignalledExactly (rows : List ℕ) (s : Programs) (x : ℕ) (event : SourceEvent) : Type 0 where

@@ -1,12 +1,11 @@
 -- Soundness of the range that refusal 80 asks for: the fresh programs are in it, and whatever a call does to them keeps them there. So
 -- no state that a history of calls gives is refused for its groups, subjects or masked lines. Also what the fresh programs are.
-use Rattle.std.specs.Prelude.{ℕ, ◌^◌, ◌<◌, Bool, true, false, List, ◌↔◌, ◌≡◌, eqb}
+use Rattle.std.specs.Prelude.{ℕ, ◌^◌, ◌<◌, Bool, true, false, List, ◌↔◌, ◌≡◌, eqb, Some}
 use Rattle.bits.specs.Sets.{has64}
 use Rattle.rows.specs.Lookups.{counts_of, partition_of, group_of}
 use Rattle.meaning.specs.declared.answer.HostVector.{HostVector}
 use Rattle.meaning.specs.Lookups.{source_event}
 use Rattle.accepted.specs.Facts.{Facts}
-use Rattle.programs.specs.declared.round.Found.TheVariants.{At}
 use Rattle.programs.specs.declared.subject.Subject.{Subject}
 use Rattle.programs.specs.declared.whole.Programs.{Programs}
 use Rattle.programs.specs.Parts.{group_at, subject_at, active_group, active_subject, with_subject, with_active}
@@ -69,7 +68,7 @@ pub record Sound : Type 0 where
       → InRange rows (handled rows s subject (source_event rows subject event))
   pub subject_range : (rows : List ℕ) (s : Programs) (subject : ℕ) (x : Subject) → InRange rows s → InRange rows (with_subject s subject x)
   pub choice_range : (rows : List ℕ) (s : Programs) (partition group : ℕ) → partition < (counts_of rows).partitions
-      → chosen_group rows s partition ≡ At group → InRange rows s → InRange rows (with_active s partition group)
+      → chosen_group rows s partition ≡ Some group → InRange rows s → InRange rows (with_active s partition group)
   pub entry_range : (rows : List ℕ) (s : Programs) (subject : ℕ) → InRange rows s → InRange rows (entering rows s subject).programs
   -- of a subject of the policy: its own group's active subject, and its own partition's active group
   pub own : (rows : List ℕ) (s : Programs) (subject : ℕ) → Facts rows → InRange rows s → subject < (counts_of rows).subjects

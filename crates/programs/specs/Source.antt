@@ -1,13 +1,11 @@
 -- "Source event": what one does to the programs. That reboot, power off and panic stop is the scheduler's.
-use Rattle.std.specs.Prelude.{ℕ, cond, List}
+use Rattle.std.specs.Prelude.{ℕ, cond, List, Option, Some, None}
 use Rattle.bits.specs.Sets.{clear64}
 use Rattle.rows.specs.Lookups.{partition_of, group_of}
 use Rattle.meaning.specs.declared.answer.IrqLine.{IrqLine}
 use Rattle.meaning.specs.declared.answer.Action.{Action}
 use Rattle.meaning.specs.declared.answer.Action.TheVariants.{Nothing, Sleep, Yield, Handover, Unmask, Reboot, PowerOff, Panic}
 use Rattle.meaning.specs.declared.answer.SourceEvent.{SourceEvent}
-use Rattle.programs.specs.declared.round.Found.{Found}
-use Rattle.programs.specs.declared.round.Found.TheVariants.{Nobody, At}
 use Rattle.programs.specs.declared.whole.Programs.{Programs}
 use Rattle.programs.specs.Records.{asleep, handed_to}
 use Rattle.programs.specs.Parts.{group_at, with_group, with_active, with_masks}
@@ -15,9 +13,9 @@ use Rattle.programs.specs.Round.{next_of, group_pending}
 use Rattle.programs.specs.Signals.{signalled}
 
 -- "that one becomes active"
-unfoldable pub moved_to : Programs → ℕ → Found → Programs
-moved_to s partition Nobody = s
-moved_to s partition (At group) = with_active s partition group
+unfoldable pub moved_to : Programs → ℕ → Option ℕ → Programs
+moved_to s partition None = s
+moved_to s partition (Some group) = with_active s partition group
 
 -- "Yield: the active group looks at the group after it, and so on, until one is awake, .. ; that one becomes active"
 unfoldable pub yielded : List ℕ → Programs → ℕ → Programs

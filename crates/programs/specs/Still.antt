@@ -1,11 +1,10 @@
 -- What a call leaves alone. "Letting an interrupt switch to the subject it is for, away from the active subject of an awake active group"
 -- is wrong; so is a source event that moves another partition or group, or a step that drops what is pending.
-use Rattle.std.specs.Prelude.{ℕ, true, List, ◌≡◌}
+use Rattle.std.specs.Prelude.{ℕ, true, List, ◌≡◌, Some}
 use Rattle.bits.specs.Sets.{has64, has256}
 use Rattle.rows.specs.Lookups.{partition_of, group_of}
 use Rattle.meaning.specs.declared.answer.HostVector.{HostVector}
 use Rattle.meaning.specs.declared.answer.SourceEvent.{SourceEvent}
-use Rattle.programs.specs.declared.round.Found.TheVariants.{At}
 use Rattle.programs.specs.declared.whole.Programs.{Programs}
 use Rattle.programs.specs.Parts.{group_at, subject_at, active_group, active_subject}
 use Rattle.programs.specs.Round.{chosen_group}
@@ -20,7 +19,7 @@ pub record NothingLost (s t : Programs) : Type 0 where
 
 -- an interrupt switches nobody: entry goes where it would have gone without it, to the active subject of the awake active group
 pub record NoSwitch (rows : List ℕ) (s : Programs) (host : HostVector) : Type 0 where
-  pub chosen : (q : ℕ) → (group_at s (active_group s q)).awake ≡ true → chosen_group rows (interrupted rows s host) q ≡ At (active_group s q)
+  pub chosen : (q : ℕ) → (group_at s (active_group s q)).awake ≡ true → chosen_group rows (interrupted rows s host) q ≡ Some (active_group s q)
   pub active_subjects : ActiveSubjectsKept s (interrupted rows s host)
   pub active_groups : ActiveGroupsKept s (interrupted rows s host)
   pub lost : NothingLost s (interrupted rows s host)

@@ -4,7 +4,6 @@ ghost use Rattle.programs.specs.Entering.{reacted, event_taken, vector_taken, en
 
 use crate::subject::Subject;
 use crate::whole::Programs;
-use bits::Highest;
 use meaning::{SubjectVector, TargetAction, target_event};
 
 // The subject after its event was taken, and whether that was a reset.
@@ -18,7 +17,7 @@ pub struct Taken {
 #[derive(Clone, Copy, Drop)]
 pub struct Injection {
     pub subject: Subject,
-    pub vector: Highest,
+    pub vector: Option<u8>,
 }
 
 // The programs after an entry, whether the subject was reset, and the vector injected.
@@ -26,7 +25,7 @@ pub struct Injection {
 pub struct Entering {
     pub programs: Programs,
     pub reset: bool,
-    pub vector: Highest,
+    pub vector: Option<u8>,
 }
 
 impl Subject {
@@ -62,11 +61,11 @@ impl Subject {
     {
         let highest = self.events.highest();
         match highest {
-            Highest::Nothing => Taken {
+            None => Taken {
                 subject: self,
                 reset: false,
             },
-            Highest::At(event) => {
+            Some(event) => {
                 let action = target_event(rows, number, event);
                 let cleared = self.clear_event(event);
                 cleared.reacted(action)
@@ -81,20 +80,20 @@ impl Subject {
         if !self.open {
             return Injection {
                 subject: self,
-                vector: Highest::Nothing,
+                vector: None,
             };
         }
         let highest = self.vectors.highest();
         match highest {
-            Highest::Nothing => Injection {
+            None => Injection {
                 subject: self,
-                vector: Highest::Nothing,
+                vector: None,
             },
-            Highest::At(vector) => {
+            Some(vector) => {
                 let subject = self.clear_vector(SubjectVector(vector));
                 Injection {
                     subject,
-                    vector: Highest::At(vector),
+                    vector: Some(vector),
                 }
             }
         }

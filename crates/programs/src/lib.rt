@@ -16,7 +16,6 @@ pub mod whole; // all of them: parts read and stored
 
 pub use entering::Entering;
 pub use group::Group;
-pub use round::Found;
 pub use subject::Subject;
 pub use whole::Programs;
 

@@ -5,13 +5,6 @@ ghost use Rattle.programs.specs.Round.{after, may_run, next_awake, next_of, chos
 use crate::whole::Programs;
 use rows::{counts_of, group_of, partition_of};
 
-// What the search finds.
-#[derive(Clone, Copy, Drop)]
-pub enum Found {
-    Nobody,
-    At(u8),
-}
-
 // The group after a group, by number; after the last comes the first.
 fn after(groups: u8, group: u8) -> u8
     ensures { result ≡ after groups group }
@@ -36,22 +29,22 @@ impl Programs {
     }
 
     // The first of the groups after a group, so many of them, that is of the partition and awake.
-    fn next_awake(self, rows: &[u64], partition: u8, left: u8, group: u8) -> Found
+    fn next_awake(self, rows: &[u64], partition: u8, left: u8, group: u8) -> Option<u8>
         ensures { result ≡ next_awake rows.now self partition left group }
     {
         if left == 0 {
-            return Found::Nobody;
+            return None;
         }
         let counts = counts_of(rows);
         let next = after(counts.groups, group);
         if self.may_run(rows, partition, next) {
-            return Found::At(next);
+            return Some(next);
         }
         self.next_awake(rows, partition, left - 1, next)
     }
 
     // The next awake group after the active one of a partition, ending at itself.
-    pub(crate) fn next_of(self, rows: &[u64], partition: u8) -> Found
+    pub(crate) fn next_of(self, rows: &[u64], partition: u8) -> Option<u8>
         ensures { result ≡ next_of rows.now self partition }
     {
         let active = self.active_group(partition);
@@ -60,13 +53,13 @@ impl Programs {
     }
 
     // The active group of a partition if awake, or the next awake.
-    pub fn chosen_group(self, rows: &[u64], partition: u8) -> Found
+    pub fn chosen_group(self, rows: &[u64], partition: u8) -> Option<u8>
         ensures { result ≡ chosen_group rows.now self partition }
     {
         let active = self.active_group(partition);
         let kept = self.group_at(active);
         if kept.awake {
-            return Found::At(active);
+            return Some(active);
         }
         self.next_of(rows, partition)
     }

@@ -3,7 +3,7 @@ ghost use Rattle.std.specs.Prelude.{◌≡◌};
 ghost use Rattle.programs.specs.Signals.{woke, vector_pending, masked, routed, interrupted, event_pending, signalled};
 
 use crate::whole::Programs;
-use meaning::{HostVector, Masking, Route, Signal, SubjectVector, route_of};
+use meaning::{HostVector, IrqLine, Route, Signal, SubjectVector, route_of};
 use rows::group_of;
 
 impl Programs {
@@ -34,28 +34,30 @@ impl Programs {
     }
 
     // The IRQ line, if there is one, is masked.
-    fn masked(self, line: Masking) -> Programs
+    fn masked(self, line: Option<IrqLine>) -> Programs
         ensures { result ≡ masked self line }
     {
         match line {
-            Masking::NoLine => self,
-            Masking::Line(irq) => {
+            None => self,
+            Some(irq) => {
                 let masks = self.masks.mark(irq.0);
                 self.with_masks(masks)
             }
         }
     }
 
-    fn routed(self, rows: &[u64], route: Route) -> Programs
+    fn routed(self, rows: &[u64], route: Option<Route>) -> Programs
         ensures { result ≡ routed rows.now self route }
     {
         match route {
-            Route::Nowhere => self,
-            Route::To {
-                subject,
-                vector,
-                line,
-            } => {
+            None => self,
+            Some(
+                Route {
+                    subject,
+                    vector,
+                    line,
+                },
+            ) => {
                 let marked = self.vector_pending(subject, vector);
                 let awake = marked.woke(rows, subject);
                 awake.masked(line)
@@ -72,16 +74,18 @@ impl Programs {
     }
 
     // The target event, if there is one, is marked pending and its group wakes.
-    pub fn signalled(self, rows: &[u64], signal: Signal) -> Programs
+    pub fn signalled(self, rows: &[u64], signal: Option<Signal>) -> Programs
         ensures { result ≡ signalled rows.now self signal }
     {
         match signal {
-            Signal::Nothing => self,
-            Signal::To {
-                subject,
-                event,
-                kick: _,
-            } => {
+            None => self,
+            Some(
+                Signal {
+                    subject,
+                    event,
+                    kick: _,
+                },
+            ) => {
                 let marked = self.event_pending(subject, event);
                 marked.woke(rows, subject)
             }

@@ -2,19 +2,18 @@
 ghost use Rattle.std.specs.Prelude.{◌≡◌};
 ghost use Rattle.programs.specs.Source.{moved_to, yielded, slept, handed_over, unmasked, acted, handled};
 
-use crate::round::Found;
 use crate::whole::Programs;
 use meaning::{Action, IrqLine, SourceEvent};
 use rows::{group_of, partition_of};
 
 impl Programs {
     // The group that was found becomes active.
-    fn moved_to(self, partition: u8, found: Found) -> Programs
+    fn moved_to(self, partition: u8, found: Option<u8>) -> Programs
         ensures { result ≡ moved_to self partition found }
     {
         match found {
-            Found::Nobody => self,
-            Found::At(group) => self.with_active(partition, group),
+            None => self,
+            Some(group) => self.with_active(partition, group),
         }
     }
 

@@ -1,6 +1,8 @@
 -- Worked lines, computed by the definitions: two lines of document 01's session policy, read and written, with a digit of the
 -- next line behind them; the bytes of one record of each other kind, in the paper's order, which no law of reading back can tell;
 -- and one line for each way to be no record.
+use Rattle.std.specs.Prelude.{Ok, Err}
+use Rattle.records.specs.declared.read.NoRecord.TheVariants.{IllFormed, WrongKind}
 use mathlib.Core.Path.{◌≡◌, refl}
 use mathlib.Core.List.{List, [], ◌∷◌, ◌++◌, map}
 use Prim.Native.Nat.{ℕ}
@@ -9,7 +11,6 @@ use Rattle.hexline.specs.Lines.{line_length, all_digits, well_formed, line_of, b
 use Rattle.hexline.specs.Writes.{pair_of, pairs_of, line_text}
 use Rattle.records.specs.declared.kind.Record.{Record}
 use Rattle.records.specs.declared.kind.Record.TheVariants.{Header, Partition, Group, Subject, Frame, Event, Trap, Target, Route, End}
-use Rattle.records.specs.declared.read.RecordLine.TheVariants.{Got, IllFormed, WrongKind}
 use Rattle.records.specs.Kinds.{size_of, bytes_of, frame_in, event_in, record_as, record_of}
 use Rattle.records.specs.RecordLines.{record_in, record_line}
 
@@ -20,7 +21,7 @@ frame_line = 48 ∷ 53 ∷ 48 ∷ 48 ∷ 48 ∷ 48 ∷ 48 ∷ 48 ∷ 48 ∷ 48 �
 frame_record : Record
 frame_record = Frame (record { major = 0; cpu = 0; partition = 0; length = 2 })
 
-frame_read : record_line (frame_line ++ (48 ∷ [])) ≡ Got frame_record 13
+frame_read : record_line (frame_line ++ (48 ∷ [])) ≡ Ok (frame_record, 13)
 unfolding frame_line frame_record record_line record_in line_of line_length well_formed all_digits is_digit digit_of byte_at spelled byte_of size_of record_of record_as frame_in
 frame_read = refl
 
@@ -35,7 +36,7 @@ event_line = 48 ∷ 54 ∷ 48 ∷ 48 ∷ 48 ∷ 49 ∷ 48 ∷ 48 ∷ 70 ∷ 70 �
 event_record : Record
 event_record = Event (record { subject = 0; event = 1; action = 0; irq = 255; target = 2; target_event = 5; kick = 1 })
 
-event_read : record_line (event_line ++ (48 ∷ [])) ≡ Got event_record 17
+event_read : record_line (event_line ++ (48 ∷ [])) ≡ Ok (event_record, 17)
 unfolding event_line event_record record_line record_in line_of line_length well_formed all_digits is_digit digit_of byte_at spelled byte_of size_of record_of record_as event_in
 event_read = refl
 
@@ -67,16 +68,16 @@ unfolding bytes_of
 others_written = refl
 
 -- `0B0010`: no such kind
-unknown_kind : record_line (48 ∷ 66 ∷ 48 ∷ 48 ∷ 49 ∷ 48 ∷ 10 ∷ []) ≡ WrongKind
+unknown_kind : record_line (48 ∷ 66 ∷ 48 ∷ 48 ∷ 49 ∷ 48 ∷ 10 ∷ []) ≡ Err WrongKind
 unfolding record_line record_in line_of line_length well_formed all_digits is_digit digit_of byte_at spelled byte_of size_of
 unknown_kind = refl
 
 -- `0A10`: one byte too few
-wrong_count : record_line (48 ∷ 65 ∷ 49 ∷ 48 ∷ 10 ∷ []) ≡ WrongKind
+wrong_count : record_line (48 ∷ 65 ∷ 49 ∷ 48 ∷ 10 ∷ []) ≡ Err WrongKind
 unfolding record_line record_in line_of line_length well_formed all_digits is_digit digit_of byte_at spelled byte_of size_of
 wrong_count = refl
 
 -- `0A0010` and no newline
-no_newline : record_line (48 ∷ 65 ∷ 48 ∷ 48 ∷ 49 ∷ 48 ∷ []) ≡ IllFormed
+no_newline : record_line (48 ∷ 65 ∷ 48 ∷ 48 ∷ 49 ∷ 48 ∷ []) ≡ Err IllFormed
 unfolding record_line record_in line_of line_length
 no_newline = refl

@@ -14,7 +14,7 @@ pub use kind::{
     Counts, EventLine, FrameLine, GroupLine, PartitionLine, Record, RouteLine, SubjectLine,
     TargetLine, TrapLine, kind_of,
 };
-pub use read::{RecordLine, read_record};
+pub use read::{NoRecord, read_record};
 pub use write::{put_record, record_bytes, record_size};
 
 // No code: that records are read back as they were written, and that a line read is its record's line, is this function's contract.

@@ -10,11 +10,9 @@ use crate::kind::{
 };
 use hexline::{Line, byte_at, number_at, read_line};
 
-// What a line of the text is.
+// Why a line of the text is no record.
 #[derive(Clone, Copy, Drop)]
-pub enum RecordLine {
-    // A record, and where its line ends, past its newline.
-    Got(Record, usize),
+pub enum NoRecord {
     // An empty line, odd digits, another byte, or no newline at the line's end.
     IllFormed,
     // Well formed, but of no known kind or of another byte count.
@@ -166,19 +164,18 @@ fn read_fields(text: &[u8], kind: u8) -> Record
     }
 }
 
-// The record of the line that the text begins with.
-pub fn read_record(text: &[u8]) -> RecordLine
+// The record of the line that the text begins with, and where the line ends, past its newline.
+pub fn read_record(text: &[u8]) -> Result<(Record, usize), NoRecord>
     ensures { result ≡ record_line text.now }
 {
     let line = read_line(text);
     let Line::Whole { bytes, end } = line else {
-        return RecordLine::IllFormed;
+        return Err(NoRecord::IllFormed);
     };
     let kind = byte_at(text, 0);
     let size = size_of(kind);
     if bytes != size {
-        return RecordLine::WrongKind;
+        return Err(NoRecord::WrongKind);
     }
-    let rec = read_fields(text, kind);
-    RecordLine::Got(rec, end)
+    Ok((read_fields(text, kind), end))
 }

@@ -1,5 +1,6 @@
 -- "In a line, the smallest number": a line gets the number of the first test that holds. So no test holds of a line that is accepted;
 -- its fields are in range and its row has a place.
+use Rattle.std.specs.Prelude.{Ok}
 use Prim.Native.Nat.{ℕ, ◌≤◌, ◌<◌}
 use mathlib.Core.Bool.{Bool, true, false, not, ◌&&◌, ◌||◌}
 use mathlib.Core.List.{List, [], ◌∷◌}
@@ -14,7 +15,6 @@ use Rattle.records.specs.declared.kind.Record.{Record}
 use Rattle.records.specs.declared.kind.Record.TheVariants.{Header, Partition, Group, Subject, Frame, Event, Trap, Target, Route, End}
 use Rattle.records.specs.Kinds.{kind_of, bytes_of, header_in}
 use Rattle.rows.specs.Lawful.{Fits}
-use Rattle.rules.specs.declared.refusal.Verdict.TheVariants.{Accepted}
 use Rattle.rules.specs.Said.{said_in, last_kind, header_line}
 use Rattle.rules.specs.Lawful.{Smallest}
 use Rattle.rules.specs.Rules.{wrong_kind, counts_in_range, partition_in_range, group_in_range, subject_in_range, longest_frame, frame_in_range, event_in_range, trap_in_range, target_in_range, routable, route_in_range, in_range, out_of_order, incomplete, misplaced, uneven, judged, verdict, Fair}
@@ -39,7 +39,7 @@ pub record Fine (e : List Record) (r : Record) : Type 0 where
   pub placed : misplaced (said_in e) r ≡ false
   pub even : uneven (said_in e) r ≡ false
 
-pub fine : (e : List Record) (r : Record) → verdict e r ≡ Accepted → Fine e r
+pub fine : (e : List Record) (r : Record) → verdict e r ≡ Ok tt → Fine e r
 fine e r v =
     let t = rw v at (smallest e r) in
     record { kind = t.0; range = t.1.0; order = t.1.1.0; full = t.1.1.1.0; placed = t.1.1.1.1.0; even = t.1.1.1.1.1 }

@@ -1,4 +1,5 @@
 -- The laws of this crate, together: what `lawful` promises.
+use Rattle.std.specs.Prelude.{Ok}
 use Prim.Native.Nat.{◌≤◌}
 use mathlib.Core.Bool.{Bool, true, false, not, ◌||◌, true≢false}
 use mathlib.Core.List.{List}
@@ -10,13 +11,12 @@ use Rattle.records.specs.declared.kind.FrameLine.{FrameLine}
 use Rattle.records.specs.declared.kind.TrapLine.{TrapLine}
 use Rattle.records.specs.declared.kind.Record.{Record}
 use Rattle.records.specs.declared.kind.Record.TheVariants.{Frame, Trap}
-use Rattle.rules.specs.declared.refusal.Verdict.TheVariants.{Accepted}
 use Rattle.rules.specs.Said.{said_in}
 use Rattle.rules.specs.Rules.{frame_in_range, in_range, routable, trap_misplaced, misplaced, verdict}
 use Rattle.rules.specs.Lawful.{Lawful}
 use Rattle.rules.proofs.Fine.{smallest, fine}
 
-lengths : (e : List Record) (f : FrameLine) → verdict e (Frame f) ≡ Accepted → (1 ≤ f.length) × (f.length ≤ 4000)
+lengths : (e : List Record) (f : FrameLine) → verdict e (Frame f) ≡ Ok tt → (1 ≤ f.length) × (f.length ≤ 4000)
 unfolding in_range frame_in_range
 lengths e f v =
     let n = (said_in e).counts in
@@ -30,7 +30,7 @@ hosts : (routable 31 ≡ false) × ((routable 32 ≡ true) × ((routable 252 ≡
 unfolding routable
 hosts = (refl, (refl, (refl, (refl, (refl, refl)))))
 
-traps : (e : List Record) (t : TrapLine) → verdict e (Trap t) ≡ Accepted → (said_in e).default_of t.subject ≡ t.event → ⊥
+traps : (e : List Record) (t : TrapLine) → verdict e (Trap t) ≡ Ok tt → (said_in e).default_of t.subject ≡ t.event → ⊥
 unfolding misplaced trap_misplaced
 traps e t v q = true≢false (sym (second (not ((said_in e).subject_given t.subject)) (eqb ((said_in e).default_of t.subject) t.event) (eq-eqb ((said_in e).default_of t.subject) t.event q)) ∙ (fine e (Trap t) v).placed)
   where

@@ -1,5 +1,6 @@
 -- The table that a reader keeps is tied to the lines that it has read: the verdict by the table is the verdict by the lines, and a line
 -- that is accepted and whose row is set keeps the tie.
+use Rattle.std.specs.Prelude.{Result, Ok, Err}
 use Prim.Native.Nat.{ℕ, suc, ◌+◌, ◌≤◌, ◌<◌}
 use mathlib.Core.Bool.{Bool, true, false, cond, not}
 use mathlib.Core.List.{List, [], ◌∷◌}
@@ -21,8 +22,6 @@ use Rattle.rows.specs.Lines.{next_in, row_in, table_of, Placed}
 use Rattle.rows.proofs.TableLaws.{get_set, zeros}
 use Rattle.rows.proofs.LineTableLaws.{is_table, within}
 use Rattle.rules.specs.declared.refusal.Refusal.{Refusal}
-use Rattle.rules.specs.declared.refusal.Verdict.{Verdict}
-use Rattle.rules.specs.declared.refusal.Verdict.TheVariants.{Accepted, Refused}
 use Rattle.rules.specs.Said.{said_in, last_kind}
 use Rattle.rules.specs.Rules.{wrong_kind, in_range, out_of_order, incomplete, misplaced, uneven, judged, verdict, Fair}
 use Rattle.rules.specs.Tables.{said_by, behind}
@@ -46,7 +45,7 @@ unfolding Fair last_kind next_in row_in
 tied_start = record { fair = tt; size = refl; rows = λ i l. zeros row_count i; kind = refl; next = refl; lines = refl }
 
 -- two rules whose tests are equal, and what comes after them where they pass
-swap : (t u : Bool) (why : Refusal) (x y : Verdict) → t ≡ u → (u ≡ false → x ≡ y) → cond t (Refused why) x ≡ cond u (Refused why) y
+swap : (t u : Bool) (why : Refusal) (x y : Result Unit Refusal) → t ≡ u → (u ≡ false → x ≡ y) → cond t (Err why) x ≡ cond u (Err why) y
 swap t true why x y e h = rw e
 swap t false why x y e h = rw e (h refl)
 
@@ -88,7 +87,7 @@ set_rows table e r s t i l = go (dec_lt (place_of (next_in e) r) row_count)
     go (no h) =
         rw (set_out table (place_of (next_in e) r) (row_of r) (omega arith), ne_eqb (place_of (next_in e) r) i (λ q. omega arith)) (t i l)
 
-pub tied_put : (table : List ℕ) (last place count : ℕ) (e : List Record) → Tied table last place count e → (r : Record) → verdict e r ≡ Accepted
+pub tied_put : (table : List ℕ) (last place count : ℕ) (e : List Record) → Tied table last place count e → (r : Record) → verdict e r ≡ Ok tt
     → Tied (set table (place_of place r) (row_of r)) (kind_of r) (place_of place r + 1) (count + 1) (r ∷ e)
 unfolding Fair last_kind next_in
 tied_put table last place count e t r v =
@@ -119,7 +118,7 @@ end_place next (Route x) q = absurd (omega arith)
 end_place next (End x) q = omega arith
 
 -- a line's place is in the table, or right behind it
-pub place_within : (e : List Record) (r : Record) → Fair e → verdict e r ≡ Accepted → place_of (next_in e) r ≤ row_count
+pub place_within : (e : List Record) (r : Record) → Fair e → verdict e r ≡ Ok tt → place_of (next_in e) r ≤ row_count
 unfolding Fair Placed next_in last_kind place_of
 place_within e r f v = go (ℕ_discrete (kind_of r) 10)
   where

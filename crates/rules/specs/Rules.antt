@@ -1,7 +1,7 @@
 -- Document 01's "Policy refusals" for one line, in the order of their numbers: "in a line, the smallest number". Each test is named
 -- after its sentence. What lines say is handed in, so that the tests are said once: of the lines read so far (`verdict`), and of
 -- the table that the code keeps.
-use Rattle.std.specs.Prelude.{ℕ, zero, suc, ◌+◌, Bool, true, false, cond, not, ◌&&◌, ◌||◌, List, [], ◌∷◌, ◌≡◌, length, ltb, leb, eqb}
+use Rattle.std.specs.Prelude.{ℕ, zero, suc, ◌+◌, Bool, true, false, cond, not, ◌&&◌, ◌||◌, List, [], ◌∷◌, ◌≡◌, length, ltb, leb, eqb, Result, Ok, Err}
 use Rattle.records.specs.declared.kind.Counts.{Counts}
 use Rattle.records.specs.declared.kind.PartitionLine.{PartitionLine}
 use Rattle.records.specs.declared.kind.GroupLine.{GroupLine}
@@ -16,8 +16,6 @@ use Rattle.records.specs.declared.kind.Record.TheVariants.{Header, Partition, Gr
 use Rattle.records.specs.Kinds.{kind_of}
 use Rattle.rules.specs.declared.refusal.Refusal.{Refusal}
 use Rattle.rules.specs.declared.refusal.Refusal.TheVariants.{WrongKind, OutOfRange, OutOfOrder, Incomplete, Misplaced, Uneven}
-use Rattle.rules.specs.declared.refusal.Verdict.{Verdict}
-use Rattle.rules.specs.declared.refusal.Verdict.TheVariants.{Accepted, Refused}
 use Rattle.rules.specs.Said.{Said, said_in, last_kind, frames_of}
 
 -- "FF means none only in the fields that say so"
@@ -270,13 +268,13 @@ uneven said (End count) = not (even said)
 -- ---- the table
 
 -- the first refusal whose test holds
-abbrev pub first : List (Bool × Refusal) → Verdict
-first [] = Accepted
-first (rule ∷ rules) = cond rule.0 (Refused rule.1) (first rules)
+abbrev pub first : List (Bool × Refusal) → Result Unit Refusal
+first [] = Ok tt
+first (rule ∷ rules) = cond rule.0 (Err rule.1) (first rules)
 
 -- what a line gets, by what lines say, the kind of the line before, how many lines were read, its own number, and whether its
 -- key is out of order
-unfoldable pub judged : Said → ℕ → ℕ → ℕ → Bool → Record → Verdict
+unfoldable pub judged : Said → ℕ → ℕ → ℕ → Bool → Record → Result Unit Refusal
 judged said last lines line unordered r =
     first
     ((wrong_kind last (kind_of r), WrongKind line)
@@ -288,10 +286,10 @@ judged said last lines line unordered r =
     ∷ [])
 
 -- what a line gets after the earlier ones
-unfoldable pub verdict : List Record → Record → Verdict
+unfoldable pub verdict : List Record → Record → Result Unit Refusal
 verdict earlier r = judged (said_in earlier) (last_kind earlier) (length earlier) (length earlier + 1) (out_of_order earlier r) r
 
 -- each line was accepted when it was read
 unfoldable pub Fair : List Record → Type 0
 Fair [] = Unit
-Fair (r ∷ earlier) = Fair earlier × (verdict earlier r ≡ Accepted)
+Fair (r ∷ earlier) = Fair earlier × (verdict earlier r ≡ Ok tt)

@@ -6,7 +6,7 @@ ghost use Rattle.rules.specs.Tables.{said_by, behind};
 use crate::ends::{is_incomplete, is_uneven};
 use crate::misplaced::is_misplaced;
 use crate::ranges::{in_range, wrong_kind};
-use crate::refusal::{Refusal, Verdict};
+use crate::refusal::Refusal;
 use records::{Record, kind_of};
 use rows::{counts_of, frames_place, place_of};
 
@@ -32,28 +32,28 @@ fn is_behind(next: usize, rec: Record) -> bool
 }
 
 // What a line gets, that has a number, after so many lines.
-pub fn verdict_of(rows: &[u64], done: Progress, line: u16, rec: Record) -> Verdict
+pub fn verdict_of(rows: &[u64], done: Progress, line: u16, rec: Record) -> Result<(), Refusal>
     ensures { result ≡ judged (said_by rows.now) done.kind done.lines line (behind done.next rec) rec }
 {
     let kind = kind_of(rec);
     if wrong_kind(done.kind, kind) {
-        return Verdict::Refused(Refusal::WrongKind(line));
+        return Err(Refusal::WrongKind(line));
     }
     let counts = counts_of(rows);
     if !in_range(counts, rec) {
-        return Verdict::Refused(Refusal::OutOfRange(line));
+        return Err(Refusal::OutOfRange(line));
     }
     if is_behind(done.next, rec) {
-        return Verdict::Refused(Refusal::OutOfOrder(line));
+        return Err(Refusal::OutOfOrder(line));
     }
     if is_incomplete(rows, done.lines, rec) {
-        return Verdict::Refused(Refusal::Incomplete(line));
+        return Err(Refusal::Incomplete(line));
     }
     if is_misplaced(rows, rec) {
-        return Verdict::Refused(Refusal::Misplaced(line));
+        return Err(Refusal::Misplaced(line));
     }
     if is_uneven(rows, rec) {
-        return Verdict::Refused(Refusal::Uneven(line));
+        return Err(Refusal::Uneven(line));
     }
-    Verdict::Accepted
+    Ok(())
 }

@@ -13,7 +13,7 @@ pub mod refusal; // the refusals P0 to P9
 pub use judge::{Progress, verdict_of};
 pub use plan::plan_length;
 pub use ranges::END;
-pub use refusal::{Refusal, Verdict};
+pub use refusal::Refusal;
 
 // No code: that a line gets the smallest number, and the bounds that document 01 names, is this function's contract.
 pub fn lawful()

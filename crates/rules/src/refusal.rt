@@ -26,12 +26,6 @@ pub enum Refusal {
     NoRoom,
 }
 
-#[derive(Clone, Copy, Drop)]
-pub enum Verdict {
-    Accepted,
-    Refused(Refusal),
-}
-
 impl Refusal {
     // Document 01's number.
     pub fn number(self) -> u8

@@ -1,6 +1,8 @@
 -- What an answer says of the state that comes with it. Every call on a CPU but a tick that waits or goes on ends in an entry or in a stop.
 -- An entry finds a group, which is awake and becomes active, or nobody, and then none of the partition is awake. A CPU that waited
 -- had nobody entered, since the state was in range.
+use Rattle.std.specs.Prelude.{Option, Some, None}
+use Rattle.calls.specs.declared.answer.Reason.{Reason}
 use Prim.Native.Nat.{ℕ, zero, suc, ◌<◌}
 use mathlib.Core.Bool.{Bool, true, false, not, ◌&&◌, ◌||◌, true≢false, false≢true}
 use mathlib.Core.List.{List, [], ◌∷◌}
@@ -19,8 +21,6 @@ use Rattle.clock.specs.declared.time.Tick.TheVariants as tick
 use Rattle.clock.specs.Time.{waiting, current_partition, clock_in_range}
 use Rattle.clock.specs.History.{waits}
 use Rattle.clock.proofs.Leaves as clock
-use Rattle.programs.specs.declared.round.Found.{Found}
-use Rattle.programs.specs.declared.round.Found.TheVariants.{Nobody, At}
 use Rattle.programs.specs.declared.whole.Programs.{Programs}
 use Rattle.programs.specs.Parts.{group_at, active_group, active_subject, with_subject, with_active}
 use Rattle.programs.specs.Range.{programs_in_range}
@@ -32,13 +32,9 @@ use Rattle.policy.specs.Writes.{known}
 use Rattle.calls.specs.declared.answer.Notes.{Notes}
 use Rattle.calls.specs.declared.call.Call.{Call}
 use Rattle.calls.specs.declared.call.Call.TheVariants as call
-use Rattle.calls.specs.declared.call.Heard.{Heard}
-use Rattle.calls.specs.declared.call.Heard.TheVariants as heard
 use Rattle.calls.specs.Answers.{nobody}
 use Rattle.scheduler.specs.declared.state.State.{State}
 use Rattle.scheduler.specs.declared.state.Stepped.{Stepped}
-use Rattle.scheduler.specs.declared.event.Stopping.{Stopping}
-use Rattle.scheduler.specs.declared.event.Stopping.TheVariants.{Goes, Stops}
 use Rattle.scheduler.specs.States.{entered_on, with_clock, with_programs, with_entered}
 use Rattle.scheduler.specs.Range.{active_on, entered_in_range, in_range}
 use Rattle.scheduler.specs.Entry.{enters, admitted, entry_of}
@@ -74,12 +70,12 @@ waits_nobody rows s cpu e w = eqb-true _ _ (one_of (eqb (entered_on s cpu) nobod
 
 -- ---- an entry, by what is found
 
-abbrev somebody : Found → Bool
-somebody Nobody = false
-somebody (At group) = true
+abbrev somebody : Option ℕ → Bool
+somebody None = false
+somebody (Some group) = true
 
 -- where nobody is found, no group of the partition is awake
-none_awake : (rows : List ℕ) (s : Programs) (partition : ℕ) → chosen_group rows s partition ≡ Nobody → active_group s partition < (counts_of rows).groups
+none_awake : (rows : List ℕ) (s : Programs) (partition : ℕ) → chosen_group rows s partition ≡ None → active_group s partition < (counts_of rows).groups
     → (group : ℕ) → group < (counts_of rows).groups → partition_of rows group ≡ partition → (group_at s group).awake ≡ false
 none_awake rows s partition e a group l h = go (group_at s group).awake refl
   where
@@ -105,7 +101,7 @@ pub record Ends (rows : List ℕ) (cpu : ℕ) (r : Stepped) : Type 0 where
 module _ (rows : List ℕ) (cpu : ℕ) (notes : Notes) where
   -- a group that is found and awake
   enters_ends : (s : State) (group : ℕ) → waiting s.clock cpu ≡ false → (group_at s.programs group).awake ≡ true
-      → Ends rows cpu (admitted rows s cpu (current_partition rows s.clock cpu) notes (At group))
+      → Ends rows cpu (admitted rows s cpu (current_partition rows s.clock cpu) notes (Some group))
   unfolding admitted enters entering with_entered with_programs with_active with_subject entered_on active_on active_subject active_group group_at
   enters_ends s group w a =
       record {
@@ -119,8 +115,8 @@ module _ (rows : List ℕ) (cpu : ℕ) (notes : Notes) where
         ended = refl;
       }
 
-  idles_ends : (s : State) → waiting s.clock cpu ≡ false → chosen_group rows s.programs (current_partition rows s.clock cpu) ≡ Nobody
-      → Ends rows cpu (admitted rows s cpu (current_partition rows s.clock cpu) notes Nobody)
+  idles_ends : (s : State) → waiting s.clock cpu ≡ false → chosen_group rows s.programs (current_partition rows s.clock cpu) ≡ None
+      → Ends rows cpu (admitted rows s cpu (current_partition rows s.clock cpu) notes None)
   unfolding admitted with_entered
   idles_ends s w e =
       record {
@@ -128,11 +124,11 @@ module _ (rows : List ℕ) (cpu : ℕ) (notes : Notes) where
         ended = refl;
       }
 
-  admitted_ends : (s : State) (found : Found) → waiting s.clock cpu ≡ false
+  admitted_ends : (s : State) (found : Option ℕ) → waiting s.clock cpu ≡ false
       → chosen_group rows s.programs (current_partition rows s.clock cpu) ≡ found
       → Ends rows cpu (admitted rows s cpu (current_partition rows s.clock cpu) notes found)
-  admitted_ends s Nobody w e = idles_ends s w e
-  admitted_ends s (At group) w e = enters_ends s group w (rounds.awake rows s.programs (current_partition rows s.clock cpu) group e)
+  admitted_ends s None w e = idles_ends s w e
+  admitted_ends s (Some group) w e = enters_ends s group w (rounds.awake rows s.programs (current_partition rows s.clock cpu) group e)
 
   pub entry_ends : (s : State) → Ends rows cpu (entry_of rows s cpu notes)
   unfolding entry_of with_entered
@@ -144,11 +140,11 @@ module _ (rows : List ℕ) (cpu : ℕ) (notes : Notes) where
 -- ---- the calls
 
 module _ (rows : List ℕ) (s : State) (cpu : ℕ) where
-  then_ends : (t : State) (subject : ℕ) (event : SourceEvent) (advance : Bool) (stopping : Stopping)
+  then_ends : (t : State) (subject : ℕ) (event : SourceEvent) (advance : Bool) (stopping : Option Reason)
       → Ends rows cpu (event_then rows t cpu subject event advance stopping)
   unfolding event_then stop
-  then_ends t subject event advance (Stops reason) = record { after = tt; ended = refl }
-  then_ends t subject event advance Goes = entry_ends rows cpu _ _
+  then_ends t subject event advance (Some reason) = record { after = tt; ended = refl }
+  then_ends t subject event advance None = entry_ends rows cpu _ _
 
   hypercall_ends : (event flag : ℕ) → Ends rows cpu (hypercall rows s cpu event flag)
   unfolding hypercall event_handled
@@ -193,7 +189,7 @@ entered_range p s cpu u l =
 there : (rows : List ℕ) (c cpu : ℕ) (r : Stepped) → eqb c cpu ≡ true → After rows c r → After rows cpu r
 there rows c cpu r e = subst (λ (i : ℕ). After rows i r) (eqb-true c cpu e)
 
-call_after : (p : Policy) (s : State) (c : Call) (cpu : ℕ) → made_on cpu (heard.Call c) ≡ true → Fine p s c → After p.rows cpu (called p.rows s c)
+call_after : (p : Policy) (s : State) (c : Call) (cpu : ℕ) → made_on cpu (Some c) ≡ true → Fine p s c → After p.rows cpu (called p.rows s c)
 unfolding called no_such
 call_after p s (call.Tick c flag) cpu m f =
     there p.rows c cpu (tick_call p.rows s c flag) m
@@ -208,10 +204,10 @@ call_after p s (call.Choose major) cpu m f = absurd (false≢true m)
 call_after p s (call.Report partition) cpu m f = absurd (false≢true m)
 call_after p s call.Masks cpu m f = absurd (false≢true m)
 
-pub step_after : (p : Policy) (s : State) (h : Heard) (cpu : ℕ) → made_on cpu h ≡ true → After p.rows cpu (step_of p s h)
+pub step_after : (p : Policy) (s : State) (h : Option Call) (cpu : ℕ) → made_on cpu h ≡ true → After p.rows cpu (step_of p s h)
 unfolding refused
-step_after p s heard.IllFormed cpu m = absurd (false≢true m)
-step_after p s (heard.Call c) cpu m = call_cases (After p.rows cpu) p s c (λ why. tt) (call_after p s c cpu m)
+step_after p s None cpu m = absurd (false≢true m)
+step_after p s (Some c) cpu m = call_cases (After p.rows cpu) p s c (λ why. tt) (call_after p s c cpu m)
 
 -- "Then entry"
 call_ends : (rows : List ℕ) (s : State) (c : Call) → exits c ≡ true
@@ -225,6 +221,6 @@ call_ends rows s (call.Choose major) e = absurd (false≢true e)
 call_ends rows s (call.Report partition) e = absurd (false≢true e)
 call_ends rows s call.Masks e = absurd (false≢true e)
 
-pub then_entry : (p : Policy) (s : State) (c : Call) → exits c ≡ true → is_refused (step_of p s (heard.Call c)).answer ≡ false
-    → (is_entry (step_of p s (heard.Call c)).answer || is_stopped (step_of p s (heard.Call c)).answer) ≡ true
+pub then_entry : (p : Policy) (s : State) (c : Call) → exits c ≡ true → is_refused (step_of p s (Some c)).answer ≡ false
+    → (is_entry (step_of p s (Some c)).answer || is_stopped (step_of p s (Some c)).answer) ≡ true
 then_entry p s c e h = rw (taken_called p s c h).1 (call_ends p.rows s c e)

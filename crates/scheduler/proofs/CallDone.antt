@@ -1,6 +1,8 @@
 -- What every call does to a lasting state: it is lasting again, other CPUs are left alone and no wake is lost. Each way is put together from
 -- its makers (`Making`) and its entry (`EntryDone`), which enters in range; whoever is entered on another CPU was in range before, and
 -- what that rests on is left alone, unless a frame opens: then nobody is entered there.
+use Rattle.std.specs.Prelude.{Option}
+use Rattle.calls.specs.declared.call.Call.{Call}
 use Prim.Native.Nat.{ℕ, ◌<◌}
 use mathlib.Core.Bool.{true}
 use mathlib.Core.List.{List}
@@ -18,7 +20,6 @@ use Rattle.clock.proofs.Lasts.{lasting_choose}
 use Rattle.clock.proofs.LastingTick.{lasting_tick}
 use Rattle.programs.specs.Wakes.{NoLostWake}
 use Rattle.calls.specs.declared.answer.Notes.{Notes}
-use Rattle.calls.specs.declared.call.Heard.{Heard}
 use Rattle.calls.specs.Answers.{nobody}
 use Rattle.scheduler.specs.declared.state.State.{State}
 use Rattle.scheduler.specs.declared.state.Stepped.{Stepped}
@@ -36,14 +37,14 @@ use Rattle.scheduler.proofs.EntryDone.{Fits, Entered, entry_done}
 use Rattle.scheduler.proofs.Places.{SamePlace, same_clock, place_chosen, place_elsewhere, place_on}
 use Rattle.scheduler.proofs.LastingTest.{Lasts, ready_of, entered_home, fits_kept, fits_elsewhere}
 
-pub record Went (rows : List ℕ) (h : Heard) (s t : State) : Type 0 where
+pub record Went (rows : List ℕ) (h : Option Call) (s t : State) : Type 0 where
   pub lasts : Lasts rows t
   pub still : ElsewhereStill rows h s t
   pub wakes : NoLostWake rows s.programs → NoLostWake rows t.programs
 
 -- ---- a call on a CPU
 
-still_of : (rows : List ℕ) (h : Heard) (cpu : ℕ) → Made h cpu → (s t : State) → Untouched rows cpu s.programs t.programs → ElsewhereStill rows h s t
+still_of : (rows : List ℕ) (h : Option Call) (cpu : ℕ) → Made h cpu → (s t : State) → Untouched rows cpu s.programs t.programs → ElsewhereStill rows h s t
 still_of rows h cpu made s t u =
     record {
       active_group_lem = λ q l f. u.active_groups q (made _ f);
@@ -53,7 +54,7 @@ still_of rows h cpu made s t u =
       vectors = λ x v l f p. u.vectors x v (made _ f) p;
     }
 
-module _ (rows : List ℕ) (facts : Facts rows) (h : Heard) (s : State) (f : Formed s) (a : Lasts rows s) where
+module _ (rows : List ℕ) (facts : Facts rows) (h : Option Call) (s : State) (f : Formed s) (a : Lasts rows s) where
   abbrev r : Ready rows s
   r = ready_of rows s f a
 
@@ -125,7 +126,7 @@ module _ (rows : List ℕ) (facts : Facts rows) (h : Heard) (s : State) (f : For
 
 -- ---- every call
 
-pub call_went : (rows : List ℕ) (s : State) (h : Heard) → Facts rows → Formed s → Lasts rows s → Went rows h s (served rows s h).state
+pub call_went : (rows : List ℕ) (s : State) (h : Option Call) → Facts rows → Formed s → Lasts rows s → Went rows h s (served rows s h).state
 unfolding with_clock with_programs entered_on
 call_went rows s h facts f a =
     by_ways rows h s (λ (t : Stepped). Went rows h s t.state)

@@ -1,6 +1,7 @@
 -- What a call that is taken leaves: the clock it comes to, that its answer is no refusal, bit 4, and whether the core has stopped. All
 -- but a stop ends in an entry, which touches neither clock nor stop; a stop says so in its answer and enters nobody. Of any table
 -- and state; what a tick comes to is the clock's to say.
+use Rattle.std.specs.Prelude.{Option, Some, None}
 use Prim.Native.Nat.{ℕ, zero, suc}
 use mathlib.Core.Bool.{Bool, true, false, true≢false, false≢true}
 use mathlib.Core.List.{List}
@@ -14,8 +15,6 @@ use Rattle.clock.specs.declared.time.Tick.{Tick}
 use Rattle.clock.specs.declared.time.Tick.TheVariants as tick
 use Rattle.clock.specs.Time.{waiting, current_partition, tick_of, chosen}
 use Rattle.clock.specs.History.{waits, opens, refuses}
-use Rattle.programs.specs.declared.round.Found.{Found}
-use Rattle.programs.specs.declared.round.Found.TheVariants.{Nobody, At}
 use Rattle.programs.specs.declared.whole.Programs.{Programs}
 use Rattle.programs.specs.Parts.{with_active}
 use Rattle.programs.specs.Round.{chosen_group}
@@ -27,8 +26,6 @@ use Rattle.calls.specs.declared.call.Call.TheVariants as call
 use Rattle.calls.specs.Answers.{nobody}
 use Rattle.scheduler.specs.declared.state.State.{State}
 use Rattle.scheduler.specs.declared.state.Stepped.{Stepped}
-use Rattle.scheduler.specs.declared.event.Stopping.{Stopping}
-use Rattle.scheduler.specs.declared.event.Stopping.TheVariants.{Goes, Stops}
 use Rattle.scheduler.specs.States.{entered_on, with_clock, with_programs, with_entered, flag_stored, alone_on, halted}
 use Rattle.scheduler.specs.Entry.{enters, admitted, entry_of}
 use Rattle.scheduler.specs.Calls.{plain, new_frame, ticked_as, stopping_of, stop, event_then, event_handled, hypercall, trap_call, interrupt_call}
@@ -81,12 +78,12 @@ module _ (rows : List ℕ) (cpu : ℕ) (notes : Notes) where
   enters_leaves s subject =
       record { clock = refl; taken = refl; frame = refl; stopped = λ h. h; nobody_after = λ h. absurd (false≢true h) }
 
-  admitted_leaves : (s : State) (partition : ℕ) (found : Found)
+  admitted_leaves : (s : State) (partition : ℕ) (found : Option ℕ)
       → Leaves s s.clock notes.new_frame (admitted rows s cpu partition notes found)
   unfolding admitted with_entered with_programs
-  admitted_leaves s partition Nobody =
+  admitted_leaves s partition None =
       record { clock = refl; taken = refl; frame = refl; stopped = λ h. h; nobody_after = λ h. absurd (false≢true h) }
-  admitted_leaves s partition (At group) =
+  admitted_leaves s partition (Some group) =
       carry s (with_programs s (with_active s.programs partition group)) s.clock _ _ refl refl (enters_leaves _ _)
 
   -- bit 4 is as handed in; "wait" has no bits
@@ -136,11 +133,11 @@ unfolding stop halted entered_on
 stop_leaves s subject reason =
     record { clock = refl; taken = refl; frame = refl; stopped = λ h. refl; nobody_after = λ h cpu. nobody_there_lem 4 cpu }
 
-then_leaves : (rows : List ℕ) (s : State) (cpu subject : ℕ) (event : SourceEvent) (advance : Bool) (stopping : Stopping)
+then_leaves : (rows : List ℕ) (s : State) (cpu subject : ℕ) (event : SourceEvent) (advance : Bool) (stopping : Option Reason)
     → Leaves s s.clock false (event_then rows s cpu subject event advance stopping)
 unfolding event_then
-then_leaves rows s cpu subject event advance (Stops reason) = stop_leaves s subject reason
-then_leaves rows s cpu subject event advance Goes =
+then_leaves rows s cpu subject event advance (Some reason) = stop_leaves s subject reason
+then_leaves rows s cpu subject event advance None =
     let b = programs_beside s _ in
     carry s (with_programs s _) s.clock false _ b.clock b.stopped (entry_leaves rows cpu _ _ false refl (λ h. refl))
 

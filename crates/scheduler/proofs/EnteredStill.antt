@@ -1,5 +1,7 @@
 -- Who is entered on CPUs that a call is not made on: a stored flag, a clock and programs leave it, an entry changes its own CPU's alone, an
 -- opening leaves nobody. That a frame was opened the answer tells, since the CPU of that tick does not wait then.
+use Rattle.std.specs.Prelude.{Option, Some, None}
+use Rattle.calls.specs.declared.call.Call.{Call}
 use Prim.Native.Nat.{ℕ, ◌<◌}
 use mathlib.Core.Bool.{true, false, true≢false, false≢true}
 use mathlib.Core.List.{List}
@@ -13,11 +15,8 @@ use Rattle.clock.specs.declared.time.Clock.{Clock}
 use Rattle.clock.specs.Time.{current_partition, waiting, tick_of}
 use Rattle.clock.specs.History.{opens}
 use Rattle.clock.proofs.LastingTick.{lasting_tick}
-use Rattle.programs.specs.declared.round.Found.{Found}
-use Rattle.programs.specs.declared.round.Found.TheVariants.{Nobody, At}
 use Rattle.programs.specs.Round.{chosen_group}
 use Rattle.calls.specs.declared.answer.Notes.{Notes}
-use Rattle.calls.specs.declared.call.Heard.{Heard}
 use Rattle.calls.specs.Answers.{nobody}
 use Rattle.scheduler.specs.declared.state.State.{State}
 use Rattle.scheduler.specs.declared.state.Stepped.{Stepped}
@@ -44,10 +43,10 @@ module _ (rows : List ℕ) (s : State) (cpu : ℕ) (notes : Notes) (c : ℕ) (d 
   unfolding with_entered entered_on
   other t subject = get_or-set_other t.entered cpu c subject nobody d
 
-  admitted_entered : (partition : ℕ) (found : Found) → entered_on (admitted rows s cpu partition notes found).state c ≡ entered_on s c
+  admitted_entered : (partition : ℕ) (found : Option ℕ) → entered_on (admitted rows s cpu partition notes found).state c ≡ entered_on s c
   unfolding admitted enters with_programs entered_on
-  admitted_entered partition Nobody = other s nobody
-  admitted_entered partition (At group) = other (with_programs s _) _
+  admitted_entered partition None = other s nobody
+  admitted_entered partition (Some group) = other (with_programs s _) _
 
   entry_entered : entered_on (entry_of rows s cpu notes).state c ≡ entered_on s c
   unfolding entry_of
@@ -66,7 +65,7 @@ told_entry rows s cpu b = (entry_leaves rows cpu new_frame s true refl (λ w. ab
 
 -- ---- the laws
 
-module _ (rows : List ℕ) (s : State) (h : Heard) (c : ℕ) (f : made_on c h ≡ false) where
+module _ (rows : List ℕ) (s : State) (h : Option Call) (c : ℕ) (f : made_on c h ≡ false) where
   pub opening_alone : tells_new_frame (served rows s h).answer ≡ true → entered_on (served rows s h).state c ≡ nobody
   opening_alone =
       by_ways rows h s (λ (t : Stepped). tells_new_frame t.answer ≡ true → entered_on t.state c ≡ nobody)

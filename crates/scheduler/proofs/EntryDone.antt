@@ -1,5 +1,6 @@
 -- An entry on a CPU: it changes that CPU's active group and the subject entered, and leaves the rest (`Done`), the clock too. Who is entered
 -- then is nobody, or the active subject of the active group of the partition current there, of which somebody's group is awake.
+use Rattle.std.specs.Prelude.{Option, Some, None}
 use Prim.Native.Nat.{ℕ, ◌<◌}
 use mathlib.Core.Bool.{true, false}
 use mathlib.Core.List.{List}
@@ -12,8 +13,6 @@ use Rattle.rows.specs.Lookups.{counts_of, cpu_of, partition_of, group_of}
 use Rattle.accepted.specs.Facts.{Facts, cpu_of_subject}
 use Rattle.clock.specs.Time.{current_partition, waiting}
 use Rattle.programs.specs.declared.group.Group.{Group}
-use Rattle.programs.specs.declared.round.Found.{Found}
-use Rattle.programs.specs.declared.round.Found.TheVariants.{Nobody, At}
 use Rattle.programs.specs.declared.whole.Programs.{Programs}
 use Rattle.programs.specs.Formed as programs
 use Rattle.programs.specs.Parts.{group_at, active_group, active_subject, with_active}
@@ -76,7 +75,7 @@ module _ (rows : List ℕ) (facts : Facts rows) (cpu : ℕ) (l : cpu < (counts_o
   none_entered : (a : Answer) → Entered rows cpu s (record { state = with_entered s cpu nobody; answer = a })
   none_entered a = record { done = entered_done rows cpu s r nobody; clock = clock_stays nobody; fits = inl (entered_there s cpu nobody inside) }
 
-  module _ (group : ℕ) (chosen : chosen_group rows s.programs here ≡ At group) where
+  module _ (group : ℕ) (chosen : chosen_group rows s.programs here ≡ Some group) where
     abbrev x : ℕ
     x = active_subject s.programs group
 
@@ -133,11 +132,11 @@ module _ (rows : List ℕ) (facts : Facts rows) (cpu : ℕ) (l : cpu < (counts_o
             ∙ sym (subjects_into rows s.programs here group x group)
             ∙ ap (active_subject (into rows s.programs here group x)) (sym (active_into rows s.programs here group x r.formed.programs (omega arith)))
 
-  admits : waiting s.clock cpu ≡ false → (found : Found) → chosen_group rows s.programs here ≡ found
+  admits : waiting s.clock cpu ≡ false → (found : Option ℕ) → chosen_group rows s.programs here ≡ found
       → Entered rows cpu s (admitted rows s cpu here notes found)
   unfolding admitted
-  admits runs Nobody e = none_entered _
-  admits runs (At group) e = one_entered group e runs
+  admits runs None e = none_entered _
+  admits runs (Some group) e = one_entered group e runs
 
   pub entry_done : Entered rows cpu s (entry_of rows s cpu notes)
   unfolding entry_of

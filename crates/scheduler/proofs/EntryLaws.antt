@@ -1,5 +1,6 @@
 -- The laws of who is entered. An entry is by cases of the clock and of the group that is found; a step stops where its answer says so, since
 -- all else leaves the mark alone; and once the mark is set only reports and masks are taken, which change nothing.
+use Rattle.std.specs.Prelude.{Option, Some, None}
 use Prim.Native.Nat.{ℕ, ◌<◌}
 use mathlib.Core.Bool.{true, false, true≢false, false≢true}
 use mathlib.Core.List.{List}
@@ -9,8 +10,6 @@ use lib.Seq.{get_or-set_same}
 use Rattle.clock.specs.Time.{waiting, ticks_left, current_partition}
 use Rattle.clock.proofs.Choices.{cond_true, cond_false}
 use Rattle.programs.specs.declared.entering.Entering.{Entering}
-use Rattle.programs.specs.declared.round.Found.{Found}
-use Rattle.programs.specs.declared.round.Found.TheVariants.{Nobody, At}
 use Rattle.programs.specs.Parts.{active_subject, with_active}
 use Rattle.programs.specs.Round.{chosen_group}
 use Rattle.programs.specs.Entering.{entering}
@@ -20,7 +19,6 @@ use Rattle.calls.specs.declared.answer.Notes.{Notes}
 use Rattle.calls.specs.declared.answer.Answer.TheVariants.{Enter, Wait}
 use Rattle.calls.specs.declared.call.Call.{Call}
 use Rattle.calls.specs.declared.call.Call.TheVariants as call
-use Rattle.calls.specs.declared.call.Heard.{Heard}
 use Rattle.calls.specs.Answers.{nobody}
 use Rattle.scheduler.specs.declared.state.State.{State}
 use Rattle.scheduler.specs.declared.state.Stepped.{Stepped}
@@ -47,7 +45,7 @@ module _ (rows : List ℕ) (s : State) (cpu : ℕ) (notes : Notes) where
   unfolding entry_of
   entry_waits w = cond_true (waiting s.clock cpu) _ _ w
 
-  pub entry_admits : (found : Found) → waiting s.clock cpu ≡ false → chosen_group rows s.programs here ≡ found
+  pub entry_admits : (found : Option ℕ) → waiting s.clock cpu ≡ false → chosen_group rows s.programs here ≡ found
       → entry_of rows s cpu notes ≡ admitted rows s cpu here notes found
   unfolding entry_of
   entry_admits found w e = cond_false (waiting s.clock cpu) _ _ w ∙ ap (admitted rows s cpu here notes) e
@@ -56,12 +54,12 @@ module _ (rows : List ℕ) (s : State) (cpu : ℕ) (notes : Notes) where
   into group = entering rows (with_active s.programs here group) (active_subject s.programs group)
 
   module _ (l : cpu < length s.entered) where
-    found_enters : (group : ℕ) → waiting s.clock cpu ≡ false → chosen_group rows s.programs here ≡ At group
+    found_enters : (group : ℕ) → waiting s.clock cpu ≡ false → chosen_group rows s.programs here ≡ Some group
         → ((entry_of rows s cpu notes).answer ≡ Enter (active_subject s.programs group) (ticks_left s.clock cpu) (injected_of (into group).vector) (into group).reset notes)
         × ((entered_on (entry_of rows s cpu notes).state cpu ≡ active_subject s.programs group) × ((entry_of rows s cpu notes).state.programs ≡ (into group).programs))
     unfolding admitted enters with_programs with_entered
     found_enters group w e =
-        rw (entry_admits (At group) w e)
+        rw (entry_admits (Some group) w e)
         (refl, (entered_there (with_programs s (into group).programs) cpu (active_subject s.programs group) l, refl))
 
     pub entry_finds : EntryFinds rows s cpu notes
@@ -69,7 +67,7 @@ module _ (rows : List ℕ) (s : State) (cpu : ℕ) (notes : Notes) where
     entry_finds =
         record {
           waits = λ w. rw (entry_waits w) (refl, entered_there s cpu nobody l);
-          idles = λ w e. rw (entry_admits Nobody w e) (refl, entered_there s cpu nobody l);
+          idles = λ w e. rw (entry_admits None w e) (refl, entered_there s cpu nobody l);
           enters = found_enters;
           runs = λ g w a b q r.
               let o = rounds.somebody rows s.programs here g a b q r in
@@ -78,7 +76,7 @@ module _ (rows : List ℕ) (s : State) (cpu : ℕ) (notes : Notes) where
 
 -- ---- a stop
 
-stopped : (p : Policy) (s : State) (h : Heard) → s.stopped ≡ false → (step_of p s h).state.stopped ≡ is_stopped (step_of p s h).answer
+stopped : (p : Policy) (s : State) (h : Option Call) → s.stopped ≡ false → (step_of p s h).state.stopped ≡ is_stopped (step_of p s h).answer
 unfolding refused
 stopped p s h e =
     step_cases (λ (r : Stepped). r.state.stopped ≡ is_stopped r.answer) p s h (λ why. e) (λ c f. (fine_leaves p s c f).stopped e)
@@ -98,12 +96,12 @@ after_stop_lem rows s (call.Choose major) e a = absurd (minded s (call.Choose ma
 after_stop_lem rows s (call.Report partition) e a = refl
 after_stop_lem rows s call.Masks e a = refl
 
-stays_stopped : (p : Policy) (s : State) (h : Heard) → s.stopped ≡ true → (step_of p s h).state ≡ s
+stays_stopped : (p : Policy) (s : State) (h : Option Call) → s.stopped ≡ true → (step_of p s h).state ≡ s
 unfolding refused
 stays_stopped p s h e =
     step_cases (λ (r : Stepped). r.state ≡ s) p s h (λ why. refl) (λ c f. after_stop_lem p.rows s c e f.passes.goes_on)
 
-nobody_after_stop : (p : Policy) (s : State) (h : Heard) → is_stopped (step_of p s h).answer ≡ true
+nobody_after_stop : (p : Policy) (s : State) (h : Option Call) → is_stopped (step_of p s h).answer ≡ true
     → (cpu : ℕ) → entered_on (step_of p s h).state cpu ≡ nobody
 unfolding refused
 nobody_after_stop p s h =

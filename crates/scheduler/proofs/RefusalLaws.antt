@@ -1,5 +1,6 @@
 -- The laws of refusals. A step is a nest of tests with a refusal of its own at each, and at the end the call, whose answer is none; so each
 -- number is answered exactly where the tests come to it.
+use Rattle.std.specs.Prelude.{Option, Some, None}
 use mathlib.Core.Bool.{Bool, true, false, cond, true≢false, false≢true}
 use mathlib.Core.Logic.{◌↔◌}
 use mathlib.Core.Path.{◌≡◌, refl, ap, sym, ◌∙◌}
@@ -13,8 +14,6 @@ use Rattle.calls.specs.declared.answer.Refusal.{Refusal}
 use Rattle.calls.specs.declared.answer.Refusal.TheVariants.{OutOfRange, IllFormed, NoSuch, BadFlag, Stopped, NobodyEntered}
 use Rattle.calls.specs.Answers.{code_of, bytes_of}
 use Rattle.calls.specs.declared.call.Call.{Call}
-use Rattle.calls.specs.declared.call.Heard.{Heard}
-use Rattle.calls.specs.declared.call.Heard.TheVariants as heard
 use Rattle.scheduler.specs.declared.state.State.{State}
 use Rattle.scheduler.specs.declared.state.Stepped.{Stepped}
 use Rattle.scheduler.specs.Calls.{refused, called}
@@ -34,7 +33,7 @@ apart {x} {y} e q = eqb-false (code_of x) (code_of y) e (ap (λ (a : Answer). ge
 not_so : (a : Answer) (why : Refusal) → is_refused a ≡ false → a ≡ Refused why → ⊥
 not_so a why e h = true≢false (sym (ap is_refused h) ∙ e)
 
-keeps : (p : Policy) (s : State) (h : Heard) (why : Refusal) → (step_of p s h).answer ≡ Refused why → (step_of p s h).state ≡ s
+keeps : (p : Policy) (s : State) (h : Option Call) (why : Refusal) → (step_of p s h).answer ≡ Refused why → (step_of p s h).state ≡ s
 unfolding refused
 keeps p s h why =
     step_cases (λ (r : Stepped). r.answer ≡ Refused why → r.state ≡ s) p s h (λ w e. refl)
@@ -108,10 +107,10 @@ first s r false false false false f =
 -- ---- a usable policy and state
 
 module _ (p : Policy) (s : State) (u : usable p s ≡ true) where
-  call_first : (c : Call) → First (no_such p.rows c) (bad_flag c) (after_stop s c) (nobody_there s c) (step_of p s (heard.Call c))
+  call_first : (c : Call) → First (no_such p.rows c) (bad_flag c) (after_stop s c) (nobody_there s c) (step_of p s (Some c))
   unfolding served answered
   call_first c =
-      rw (step_served p s (heard.Call c) u)
+      rw (step_served p s (Some c) u)
       (first s (called p.rows s c) _ _ _ _ (λ n. (called_leaves p.rows (usable_facts p s u) s (usable_clock p s u) c n).taken))
 
   first_that_applies : (c : Call) → FirstThatApplies p s c
@@ -125,27 +124,27 @@ module _ (p : Policy) (s : State) (u : usable p s ≡ true) where
         taken = f.taken;
       }
 
-  taken_exactly : (c : Call) → (is_refused (step_of p s (heard.Call c)).answer ≡ false) ↔ Allowed p.rows s c
+  taken_exactly : (c : Call) → (is_refused (step_of p s (Some c)).answer ≡ false) ↔ Allowed p.rows s c
   taken_exactly c = (
     λ h. passes_allowed p.rows s c (taken_called p s c h).0.passes,
     λ a.
         let t = allowed_passes p.rows s c a in (call_first c).taken t.there t.flagged t.goes_on t.somebody,
   )
 
-  ill_formed : (step_of p s heard.IllFormed).answer ≡ Refused IllFormed
+  ill_formed : (step_of p s None).answer ≡ Refused IllFormed
   unfolding served refused
-  ill_formed = rw (step_served p s heard.IllFormed u)
+  ill_formed = rw (step_served p s None u)
 
-  not_eighty : (h : Heard) → (step_of p s h).answer ≡ Refused OutOfRange → ⊥
+  not_eighty : (h : Option Call) → (step_of p s h).answer ≡ Refused OutOfRange → ⊥
   unfolding code_of
-  not_eighty heard.IllFormed e = apart refl (sym ill_formed ∙ e)
-  not_eighty (heard.Call c) e = (call_first c).not_80 e
+  not_eighty None e = apart refl (sym ill_formed ∙ e)
+  not_eighty (Some c) e = (call_first c).not_80 e
 
-  eighty_one : (h : Heard) → ((step_of p s h).answer ≡ Refused IllFormed) ↔ (h ≡ heard.IllFormed)
-  eighty_one heard.IllFormed = (λ e. refl, λ e. ill_formed)
-  eighty_one (heard.Call c) = (λ e. absurd ((call_first c).not_81 e), λ e. cc)
+  eighty_one : (h : Option Call) → ((step_of p s h).answer ≡ Refused IllFormed) ↔ (h ≡ None)
+  eighty_one None = (λ e. refl, λ e. ill_formed)
+  eighty_one (Some c) = (λ e. absurd ((call_first c).not_81 e), λ e. cc)
 
-eighty : (p : Policy) (s : State) (h : Heard) → ((step_of p s h).answer ≡ Refused OutOfRange) ↔ (usable p s ≡ false)
+eighty : (p : Policy) (s : State) (h : Option Call) → ((step_of p s h).answer ≡ Refused OutOfRange) ↔ (usable p s ≡ false)
 unfolding refused
 eighty p s h = (to (usable p s) refl, λ u. ap (λ (r : Stepped). r.answer) (step_refused p s h u))
   where

@@ -1,6 +1,8 @@
 -- An entry's answer has the notes that the call hands it, unless the CPU waits; so what an answer says beside whom it enters is what the
 -- call says. Of any table and state.
 -- Assumes nothing.
+use Rattle.std.specs.Prelude.{Option, Some, None}
+use Rattle.calls.specs.declared.answer.Reason.{Reason}
 use Prim.Native.Nat.{ℕ, ◌<◌, ◌≤◌}
 use mathlib.Core.Bool.{Bool, true, false, true≢false}
 use mathlib.Core.List.{List}
@@ -15,12 +17,8 @@ use Rattle.clock.specs.declared.time.Clock.{Clock}
 use Rattle.clock.specs.declared.time.Tick.{Tick}
 use Rattle.clock.specs.declared.time.Tick.TheVariants as tick
 use Rattle.clock.specs.Time.{waiting, current_partition}
-use Rattle.programs.specs.declared.round.Found.{Found}
-use Rattle.programs.specs.declared.round.Found.TheVariants.{Nobody, At}
 use Rattle.programs.specs.Round.{chosen_group}
 use Rattle.programs.specs.Source.{handled}
-use Rattle.calls.specs.declared.answer.Kick.{Kick}
-use Rattle.calls.specs.declared.answer.Kick.TheVariants as kick
 use Rattle.calls.specs.declared.answer.Notes.{Notes}
 use Rattle.calls.specs.declared.answer.Reason.TheVariants.{HighTrap}
 use Rattle.calls.specs.declared.answer.Answer.{Answer}
@@ -29,39 +27,37 @@ use Rattle.calls.specs.declared.call.Call.TheVariants as call
 use Rattle.calls.specs.Answers.{nobody}
 use Rattle.scheduler.specs.declared.state.State.{State}
 use Rattle.scheduler.specs.declared.state.Stepped.{Stepped}
-use Rattle.scheduler.specs.declared.event.Stopping.{Stopping}
-use Rattle.scheduler.specs.declared.event.Stopping.TheVariants.{Goes, Stops}
 use Rattle.scheduler.specs.States.{entered_on, with_programs, flag_stored}
 use Rattle.scheduler.specs.Entry.{enters, admitted, entry_of}
 use Rattle.scheduler.specs.Calls.{plain, new_frame, ticked_as, tick_call, stopping_of, kicked_by, stop, event_then, event_handled, hypercall_event, hypercall, advances, trap_source, trap_call, interrupt_call, called, refused}
 use Rattle.scheduler.specs.Says.{tells_advance, tells_kick, SaysOf, Says}
 
 -- an answer tells these two
-record Tells (advance : Bool) (kicked : Kick) (answer : Answer) : Type 0 where
+record Tells (advance : Bool) (kicked : Option ℕ) (answer : Answer) : Type 0 where
   pub advances : tells_advance answer ≡ advance
   pub kicks : tells_kick answer ≡ kicked
 
 -- ---- entry
 
 module _ (rows : List ℕ) (cpu : ℕ) (notes : Notes) where
-  admitted_tells : (s : State) (partition : ℕ) (found : Found)
+  admitted_tells : (s : State) (partition : ℕ) (found : Option ℕ)
       → Tells notes.advance notes.kick (admitted rows s cpu partition notes found).answer
   unfolding admitted enters
-  admitted_tells s partition Nobody = record { advances = refl; kicks = refl }
-  admitted_tells s partition (At group) = record { advances = refl; kicks = refl }
+  admitted_tells s partition None = record { advances = refl; kicks = refl }
+  admitted_tells s partition (Some group) = record { advances = refl; kicks = refl }
 
   -- the entry of a CPU that does not wait
   abbrev running : State → Answer
   running s =
       (admitted rows s cpu (current_partition rows s.clock cpu) notes (chosen_group rows s.programs (current_partition rows s.clock cpu))).answer
 
-  running_tells : (s : State) (advance : Bool) (kicked : Kick) → notes.advance ≡ advance → notes.kick ≡ kicked → Tells advance kicked (running s)
+  running_tells : (s : State) (advance : Bool) (kicked : Option ℕ) → notes.advance ≡ advance → notes.kick ≡ kicked → Tells advance kicked (running s)
   running_tells s advance kicked a k =
       record { advances = (admitted_tells s _ _).advances ∙ a; kicks = (admitted_tells s _ _).kicks ∙ k }
 
   -- "wait" says neither
-  entry_tells : (s : State) (advance : Bool) (kicked : Kick) → notes.advance ≡ advance → notes.kick ≡ kicked
-      → (waiting s.clock cpu ≡ true → (advance ≡ false) × (kicked ≡ kick.Nobody)) → Tells advance kicked (entry_of rows s cpu notes).answer
+  entry_tells : (s : State) (advance : Bool) (kicked : Option ℕ) → notes.advance ≡ advance → notes.kick ≡ kicked
+      → (waiting s.clock cpu ≡ true → (advance ≡ false) × (kicked ≡ None)) → Tells advance kicked (entry_of rows s cpu notes).answer
   unfolding entry_of
   entry_tells s advance kicked a k w =
       by_cond (λ (r : Stepped). Tells advance kicked r.answer) (waiting s.clock cpu) _ _
@@ -74,28 +70,28 @@ flag_clock : (s : State) (cpu flag : ℕ) → (flag_stored s cpu flag).clock ≡
 unfolding flag_stored with_programs
 flag_clock s cpu flag = by_cond (λ (t : State). t.clock ≡ s.clock) (eqb (entered_on s cpu) nobody) _ _ (λ t. refl) (λ f. refl)
 
-ticked_tells : (rows : List ℕ) (s : State) (cpu flag : ℕ) (k : Clock) (what : Tick) → Tells false kick.Nobody (ticked_as rows s cpu flag k what).answer
+ticked_tells : (rows : List ℕ) (s : State) (cpu flag : ℕ) (k : Clock) (what : Tick) → Tells false None (ticked_as rows s cpu flag k what).answer
 unfolding ticked_as refused
 ticked_tells rows s cpu flag k tick.Wait = record { advances = refl; kicks = refl }
 ticked_tells rows s cpu flag k tick.GoOn = record { advances = refl; kicks = refl }
-ticked_tells rows s cpu flag k tick.Moved = entry_tells rows cpu plain _ false kick.Nobody refl refl (λ t. (refl, refl))
-ticked_tells rows s cpu flag k tick.Opened = entry_tells rows cpu new_frame _ false kick.Nobody refl refl (λ t. (refl, refl))
+ticked_tells rows s cpu flag k tick.Moved = entry_tells rows cpu plain _ false None refl refl (λ t. (refl, refl))
+ticked_tells rows s cpu flag k tick.Opened = entry_tells rows cpu new_frame _ false None refl refl (λ t. (refl, refl))
 ticked_tells rows s cpu flag k tick.Refused = record { advances = refl; kicks = refl }
 
-tick_tells : (rows : List ℕ) (s : State) (cpu flag : ℕ) → Tells false kick.Nobody (called rows s (call.Tick cpu flag)).answer
+tick_tells : (rows : List ℕ) (s : State) (cpu flag : ℕ) → Tells false None (called rows s (call.Tick cpu flag)).answer
 unfolding called tick_call
 tick_tells rows s cpu flag = ticked_tells rows s cpu flag _ _
 
-interrupt_tells : (rows : List ℕ) (s : State) (cpu vector flag : ℕ) → Tells false kick.Nobody (called rows s (call.Interrupt cpu vector flag)).answer
+interrupt_tells : (rows : List ℕ) (s : State) (cpu vector flag : ℕ) → Tells false None (called rows s (call.Interrupt cpu vector flag)).answer
 unfolding called interrupt_call
-interrupt_tells rows s cpu vector flag = entry_tells rows cpu plain _ false kick.Nobody refl refl (λ t. (refl, refl))
+interrupt_tells rows s cpu vector flag = entry_tells rows cpu plain _ false None refl refl (λ t. (refl, refl))
 
-then_says : (rows : List ℕ) (s : State) (cpu subject : ℕ) (event : SourceEvent) (advance : Bool) (stopping : Stopping) → waiting s.clock cpu ≡ false
+then_says : (rows : List ℕ) (s : State) (cpu subject : ℕ) (event : SourceEvent) (advance : Bool) (stopping : Option Reason) → waiting s.clock cpu ≡ false
     → SaysOf rows event advance (event_then rows s cpu subject event advance stopping).answer
 unfolding event_then stop with_programs
-then_says rows s cpu subject event advance (Stops reason) w =
+then_says rows s cpu subject event advance (Some reason) w =
     record { advances = λ e. absurd (true≢false e); kicks = λ e. absurd (true≢false e) }
-then_says rows s cpu subject event advance Goes w =
+then_says rows s cpu subject event advance None w =
     let told = entry_tells rows cpu (record { advance = advance; new_frame = false; kick = kicked_by rows event.signal })
     (with_programs s (handled rows s.programs subject event)) advance (kicked_by rows event.signal) refl refl
     (λ t. absurd (true≢false (sym t ∙ w))) in

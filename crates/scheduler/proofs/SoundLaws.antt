@@ -1,5 +1,7 @@
 -- Soundness. A fresh state is lasting by its clock and its programs, with nobody entered; what every call does keeps it so (`CallDone`); and a
 -- lasting state is in range. So after whatever calls from the start the state is usable, and 80 is answered only where it is not.
+use Rattle.std.specs.Prelude.{Option}
+use Rattle.calls.specs.declared.call.Call.{Call}
 use Prim.Native.Nat.{ℕ}
 use mathlib.Core.Bool.{true, ◌&&◌, true≢false}
 use mathlib.Core.List.{List, [], ◌∷◌}
@@ -18,7 +20,6 @@ use Rattle.programs.specs.Range.{programs_in_range}
 use Rattle.programs.proofs.Conditions.{laws}
 use Rattle.calls.specs.declared.answer.Refusal.TheVariants.{OutOfRange}
 use Rattle.calls.specs.declared.answer.Answer.TheVariants.{Refused}
-use Rattle.calls.specs.declared.call.Heard.{Heard}
 use Rattle.scheduler.specs.declared.state.State.{State}
 use Rattle.scheduler.specs.declared.state.Stepped.{Stepped}
 use Rattle.scheduler.specs.States.{entered_on, fresh_state}
@@ -46,7 +47,7 @@ lasting_range rows s e =
     let a = both (lasting_clock rows s.clock) (programs_in_range rows s.programs && all_below (counts_of rows).cpus (entered_in_range rows s)) e in
     rw (clock.lasting_range rows s.clock a.0) a.1
 
-served_lasting : (rows : List ℕ) (s : State) (h : Heard) → Facts rows → Formed s → lasting rows s ≡ true → lasting rows (served rows s h).state ≡ true
+served_lasting : (rows : List ℕ) (s : State) (h : Option Call) → Facts rows → Formed s → lasting rows s ≡ true → lasting rows (served rows s h).state ≡ true
 served_lasting rows s h facts f e = of_lasts rows (served rows s h).state (call_went rows s h facts f (lasts_of rows s e)).lasts
 
 -- ---- an accepted policy and a lasting state
@@ -55,19 +56,19 @@ module _ (p : Policy) (k : known p ≡ true) where
   lasting_usable : (s : State) → lasting p.rows s ≡ true → usable p s ≡ true
   lasting_usable s e = rw (k, lasting_range p.rows s e)
 
-  step_served : (s : State) (h : Heard) → lasting p.rows s ≡ true → step_of p s h ≡ served p.rows s h
+  step_served : (s : State) (h : Option Call) → lasting p.rows s ≡ true → step_of p s h ≡ served p.rows s h
   step_served s h e = cases.step_served p s h (lasting_usable s e)
 
-  step_lasting : (s : State) (h : Heard) → Formed s → lasting p.rows s ≡ true → lasting p.rows (step_of p s h).state ≡ true
+  step_lasting : (s : State) (h : Option Call) → Formed s → lasting p.rows s ≡ true → lasting p.rows (step_of p s h).state ≡ true
   step_lasting s h f e =
       ap (λ (t : Stepped). lasting p.rows t.state) (step_served s h e) ∙ served_lasting p.rows s h ((accepted.laws).facts p k) f e
 
-  after_lasting : (hs : List Heard) (s : State) → Formed s → lasting p.rows s ≡ true → lasting p.rows (after_all p s hs) ≡ true
+  after_lasting : (hs : List (Option Call)) (s : State) → Formed s → lasting p.rows s ≡ true → lasting p.rows (after_all p s hs) ≡ true
   unfolding after_all
   after_lasting [] s f e = e
   after_lasting (h ∷ hs) s f e = after_lasting hs (step_of p s h).state (step_formed p s h f) (step_lasting s h f e)
 
-  never_80 : (hs : List Heard) (h : Heard) → (step_of p (after_all p (fresh_state p.rows) hs) h).answer ≡ Refused OutOfRange → ⊥
+  never_80 : (hs : List (Option Call)) (h : Option Call) → (step_of p (after_all p (fresh_state p.rows) hs) h).answer ≡ Refused OutOfRange → ⊥
   never_80 hs h e =
       let t = after_lasting hs (fresh_state p.rows) (fresh_formed p.rows) (fresh_lasting p.rows ((accepted.laws).facts p k)) in
       true≢false (sym (lasting_usable _ t) ∙ (refusals.eighty p _ h).0 e)

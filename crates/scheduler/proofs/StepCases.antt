@@ -1,5 +1,6 @@
 -- A step by cases: it is refused, or none of 80 to 85 applies and it is the call itself, which then is not refused. So where an answer is
 -- no refusal, the step is the call and leaves what the call leaves.
+use Rattle.std.specs.Prelude.{Option, Some, None}
 use mathlib.Core.Bool.{true, false, true≢false}
 use mathlib.Core.Path.{◌≡◌, refl}
 use Rattle.hexline.proofs.Cond.{by_cond, both}
@@ -12,8 +13,6 @@ use Rattle.accepted.proofs.Laws as accepted
 use Rattle.calls.specs.declared.answer.Refusal.{Refusal}
 use Rattle.calls.specs.declared.answer.Refusal.TheVariants.{OutOfRange, IllFormed, NoSuch, BadFlag, Stopped, NobodyEntered}
 use Rattle.calls.specs.declared.call.Call.{Call}
-use Rattle.calls.specs.declared.call.Heard.{Heard}
-use Rattle.calls.specs.declared.call.Heard.TheVariants as heard
 use Rattle.scheduler.specs.declared.state.State.{State}
 use Rattle.scheduler.specs.declared.state.Stepped.{Stepped}
 use Rattle.scheduler.specs.Range.{in_range}
@@ -27,11 +26,11 @@ use Rattle.scheduler.proofs.TickTaken.{ClockRange, clock_range, called_leaves}
 
 -- ---- 80
 
-pub step_served : (p : Policy) (s : State) (h : Heard) → usable p s ≡ true → step_of p s h ≡ served p.rows s h
+pub step_served : (p : Policy) (s : State) (h : Option Call) → usable p s ≡ true → step_of p s h ≡ served p.rows s h
 unfolding step_of
 step_served p s h u = cond_true (usable p s) _ _ u
 
-pub step_refused : (p : Policy) (s : State) (h : Heard) → usable p s ≡ false → step_of p s h ≡ refused s OutOfRange
+pub step_refused : (p : Policy) (s : State) (h : Option Call) → usable p s ≡ false → step_of p s h ≡ refused s OutOfRange
 unfolding step_of
 step_refused p s h u = cond_false (usable p s) _ _ u
 
@@ -57,7 +56,7 @@ fine_leaves p s c f = called_leaves p.rows (usable_facts p s f.in_range_lem) s (
 
 -- one applies, or none
 pub call_cases : (P : Stepped → Type 0) (p : Policy) (s : State) (c : Call) → ((why : Refusal) → P (refused s why))
-    → (Fine p s c → P (called p.rows s c)) → P (step_of p s (heard.Call c))
+    → (Fine p s c → P (called p.rows s c)) → P (step_of p s (Some c))
 unfolding step_of served answered
 call_cases P p s c out on =
     by_cond P (usable p s) _ _
@@ -69,25 +68,25 @@ call_cases P p s c out on =
     (λ u. out OutOfRange)
 
 -- a line that is no call
-pub line_cases : (P : Stepped → Type 0) (p : Policy) (s : State) → ((why : Refusal) → P (refused s why)) → P (step_of p s heard.IllFormed)
+pub line_cases : (P : Stepped → Type 0) (p : Policy) (s : State) → ((why : Refusal) → P (refused s why)) → P (step_of p s None)
 unfolding step_of served
 line_cases P p s out = by_cond P (usable p s) _ _ (λ u. out IllFormed) (λ u. out OutOfRange)
 
 -- whatever was heard
-pub step_cases : (P : Stepped → Type 0) (p : Policy) (s : State) (h : Heard) → ((why : Refusal) → P (refused s why))
+pub step_cases : (P : Stepped → Type 0) (p : Policy) (s : State) (h : Option Call) → ((why : Refusal) → P (refused s why))
     → ((c : Call) → Fine p s c → P (called p.rows s c)) → P (step_of p s h)
-step_cases P p s heard.IllFormed out on = line_cases P p s out
-step_cases P p s (heard.Call c) out on = call_cases P p s c out (on c)
+step_cases P p s None out on = line_cases P p s out
+step_cases P p s (Some c) out on = call_cases P p s c out (on c)
 
 -- ---- an answer that is no refusal
 
-pub taken_called : (p : Policy) (s : State) (c : Call) → is_refused (step_of p s (heard.Call c)).answer ≡ false
-    → Fine p s c × (step_of p s (heard.Call c) ≡ called p.rows s c)
+pub taken_called : (p : Policy) (s : State) (c : Call) → is_refused (step_of p s (Some c)).answer ≡ false
+    → Fine p s c × (step_of p s (Some c) ≡ called p.rows s c)
 unfolding refused
 taken_called p s c =
     call_cases (λ (r : Stepped). is_refused r.answer ≡ false → Fine p s c × (r ≡ called p.rows s c)) p s c
     (λ why h. absurd (true≢false h)) (λ f h. (f, refl))
 
-pub taken_leaves : (p : Policy) (s : State) (c : Call) → is_refused (step_of p s (heard.Call c)).answer ≡ false
-    → Leaves s (clock_then p.rows s.clock c) (opens_then p.rows s.clock c) (step_of p s (heard.Call c))
+pub taken_leaves : (p : Policy) (s : State) (c : Call) → is_refused (step_of p s (Some c)).answer ≡ false
+    → Leaves s (clock_then p.rows s.clock c) (opens_then p.rows s.clock c) (step_of p s (Some c))
 taken_leaves p s c h = let t = taken_called p s c h in rw t.1 (fine_leaves p s c t.0)

@@ -1,5 +1,7 @@
 -- A step keeps the arrays of a state as long as their types say: each maker of a state stores at one place of an array, or makes a new one
 -- of that length.
+use Rattle.std.specs.Prelude.{Option, Some, None}
+use Rattle.calls.specs.declared.call.Call.{Call}
 use Prim.Native.Nat.{ℕ}
 use mathlib.Core.Bool.{◌&&◌}
 use mathlib.Core.List.{List}
@@ -13,14 +15,11 @@ use Rattle.clock.specs.declared.time.Clock.{Clock}
 use Rattle.clock.specs.Lasting as clock
 use Rattle.clock.specs.Time.{current_partition, waiting, tick_of}
 use Rattle.clock.proofs.Leaves.{formed_fresh, formed_choose, leaves}
-use Rattle.programs.specs.declared.round.Found.{Found}
-use Rattle.programs.specs.declared.round.Found.TheVariants.{Nobody, At}
 use Rattle.programs.specs.declared.whole.Programs.{Programs}
 use Rattle.programs.specs.Formed as programs
 use Rattle.programs.specs.Round.{chosen_group}
 use Rattle.programs.proofs.Conditions.{laws}
 use Rattle.calls.specs.declared.answer.Notes.{Notes}
-use Rattle.calls.specs.declared.call.Heard.{Heard}
 use Rattle.calls.specs.Answers.{nobody}
 use Rattle.scheduler.specs.declared.state.State.{State}
 use Rattle.scheduler.specs.declared.state.Stepped.{Stepped}
@@ -68,10 +67,10 @@ record Forms (t : Stepped) : Type 0 where
   state : Formed t.state
 
 module _ (rows : List ℕ) (s : State) (f : Formed s) (cpu : ℕ) (notes : Notes) where
-  admitted_formed : (partition : ℕ) (found : Found) → Forms (admitted rows s cpu partition notes found)
+  admitted_formed : (partition : ℕ) (found : Option ℕ) → Forms (admitted rows s cpu partition notes found)
   unfolding admitted enters
-  admitted_formed partition Nobody = record { state = entered_formed s f cpu nobody }
-  admitted_formed partition (At group) =
+  admitted_formed partition None = record { state = entered_formed s f cpu nobody }
+  admitted_formed partition (Some group) =
       let active = programs_formed s f _ (laws.formed.moved s.programs partition group f.programs) in
       record { state = entered_formed _ (programs_formed _ active _ (laws.formed.entered rows _ _ active.programs)) cpu _ }
 
@@ -83,7 +82,7 @@ module _ (rows : List ℕ) (s : State) (f : Formed s) (cpu : ℕ) (notes : Notes
 
 -- ---- a step
 
-pub served_formed : (rows : List ℕ) (s : State) (h : Heard) → Formed s → Formed (served rows s h).state
+pub served_formed : (rows : List ℕ) (s : State) (h : Option Call) → Formed s → Formed (served rows s h).state
 served_formed rows s h f =
     by_ways rows h s (λ (t : Stepped). Formed t.state)
     (record {
@@ -104,7 +103,7 @@ served_formed rows s h f =
     ticked : (cpu : ℕ) → Formed (with_clock s (tick_of rows s.clock cpu).clock)
     ticked cpu = clock_formed s f _ ((leaves rows s.clock cpu).formed f.clock)
 
-pub step_formed : (p : Policy) (s : State) (h : Heard) → Formed s → Formed (step_of p s h).state
+pub step_formed : (p : Policy) (s : State) (h : Option Call) → Formed s → Formed (step_of p s h).state
 unfolding step_of refused
 step_formed p s h f =
     (by_cond Forms (known p && in_range p.rows s) _ _ (λ e. record { state = served_formed p.rows s h f }) (λ e. record { state = f })).state

@@ -1,5 +1,6 @@
 -- What a call leaves alone. `elsewhere_still` and `no_lost_wake` are parts of what every call does (`CallDone`). An interrupt switches nobody:
 -- it moves no active group or subject, and entry keeps an active group that is awake and enters its active subject.
+use Rattle.std.specs.Prelude.{Option, Some, None}
 use Prim.Native.Nat.{ℕ, ◌<◌}
 use mathlib.Core.Bool.{Bool, true, false, ◌&&◌, true≢false}
 use mathlib.Core.List.{List}
@@ -16,8 +17,6 @@ use Rattle.clock.specs.declared.time.Clock.{Clock}
 use Rattle.clock.specs.Time.{current_partition, waiting}
 use Rattle.clock.proofs.Choices.{cond_false}
 use Rattle.programs.specs.declared.group.Group.{Group}
-use Rattle.programs.specs.declared.round.Found.{Found}
-use Rattle.programs.specs.declared.round.Found.TheVariants.{Nobody, At}
 use Rattle.programs.specs.declared.whole.Programs.{Programs}
 use Rattle.programs.specs.Parts.{group_at, active_group, active_subject, with_active}
 use Rattle.programs.specs.Still as programs
@@ -28,7 +27,6 @@ use Rattle.programs.proofs.PartLaws.{read_after, active_of_subject, group_of_sub
 use Rattle.programs.proofs.Conditions.{laws}
 use Rattle.calls.specs.declared.answer.Notes.{Notes}
 use Rattle.calls.specs.declared.call.Call.TheVariants as call
-use Rattle.calls.specs.declared.call.Heard.TheVariants as heard
 use Rattle.calls.specs.Answers.{nobody}
 use Rattle.scheduler.specs.declared.state.State.{State}
 use Rattle.scheduler.specs.declared.state.Stepped.{Stepped}
@@ -50,7 +48,7 @@ use Rattle.scheduler.proofs.EnteredStill.{opening_alone, entered_still}
 -- ---- the call is taken
 
 interrupt_taken : (rows : List ℕ) (s : State) (cpu vector flag : ℕ) → s.stopped ≡ false → cpu < (counts_of rows).cpus → flag < 2
-    → served rows s (heard.Call (call.Interrupt cpu vector flag)) ≡ interrupt_call rows s cpu vector flag
+    → served rows s (Some (call.Interrupt cpu vector flag)) ≡ interrupt_call rows s cpu vector flag
 unfolding served answered no_such bad_flag after_stop minds nobody_there called
 interrupt_taken rows s cpu vector flag runs l few =
     cond_false (leb (counts_of rows).cpus cpu) _ _ (lt-leb (counts_of rows).cpus cpu l)
@@ -76,8 +74,8 @@ stored_groups s cpu flag =
 record Keeps (rows : List ℕ) (cpu : ℕ) (m : State) (t : Stepped) : Type 0 where
   active_subjects : ActiveSubjectsKept m.programs t.state.programs
   -- an active group that is chosen stays
-  active_group_lem : (q : ℕ) → chosen_group rows m.programs q ≡ At (active_group m.programs q) → active_group t.state.programs q ≡ active_group m.programs q
-  entered : (g : ℕ) → waiting m.clock cpu ≡ false → chosen_group rows m.programs (current_partition rows m.clock cpu) ≡ At g
+  active_group_lem : (q : ℕ) → chosen_group rows m.programs q ≡ Some (active_group m.programs q) → active_group t.state.programs q ≡ active_group m.programs q
+  entered : (g : ℕ) → waiting m.clock cpu ≡ false → chosen_group rows m.programs (current_partition rows m.clock cpu) ≡ Some g
       → entered_on t.state cpu ≡ active_subject m.programs g
 
 module _ (rows : List ℕ) (cpu : ℕ) (m : State) (l : cpu < length m.entered) (notes : Notes) where
@@ -88,26 +86,26 @@ module _ (rows : List ℕ) (cpu : ℕ) (m : State) (l : cpu < length m.entered) 
   p = m.programs
 
   -- where the partition is another, or the group is its active one
-  active_stays : (group : ℕ) → chosen_group rows p here ≡ At group → (q : ℕ) → chosen_group rows p q ≡ At (active_group p q)
+  active_stays : (group : ℕ) → chosen_group rows p here ≡ Some group → (q : ℕ) → chosen_group rows p q ≡ Some (active_group p q)
       → active_group (with_active p here group) q ≡ active_group p q
   unfolding active_group with_active
   active_stays group c q e = read_after (λ (g : ℕ). g ≡ active_group p q) p.actives here q group 0 refl (λ same. one same)
     where
       one : q ≡ here → group ≡ active_group p q
-      one same = let z : At group ≡ At (active_group p q) = sym c ∙ ap (chosen_group rows p) (sym same) ∙ e in cc
+      one same = let z : Some group ≡ Some (active_group p q) = sym c ∙ ap (chosen_group rows p) (sym same) ∙ e in cc
 
-  admits : waiting m.clock cpu ≡ false → (found : Found) → chosen_group rows p here ≡ found → Keeps rows cpu m (admitted rows m cpu here notes found)
+  admits : waiting m.clock cpu ≡ false → (found : Option ℕ) → chosen_group rows p here ≡ found → Keeps rows cpu m (admitted rows m cpu here notes found)
   unfolding admitted enters with_programs with_entered
-  admits runs Nobody c =
+  admits runs None c =
       record { active_subjects = λ g. refl; active_group_lem = λ q e. refl; entered = λ g w e. absurd (apart g (sym c ∙ e)) }
     where
-      apart : (g : ℕ) → Nobody ≡ At g → ⊥
+      apart : (g : ℕ) → None ≡ Some g → ⊥
       apart g e = let z : ◌≡◌ {A = ℕ} 0 1 = cc in omega arith
-  admits runs (At group) c =
+  admits runs (Some group) c =
       record {
         active_subjects = subjects_into rows p here group x;
         active_group_lem = λ q e. groups_into rows p here group x q ∙ active_stays group c q e;
-        entered = λ g w e. let z : At group ≡ At g = sym c ∙ e in let same : group ≡ g = cc in entered_there (with_programs m (into rows p here group x)) cpu x l ∙ ap (active_subject p) same;
+        entered = λ g w e. let z : Some group ≡ Some g = sym c ∙ e in let same : group ≡ g = cc in entered_there (with_programs m (into rows p here group x)) cpu x l ∙ ap (active_subject p) same;
       }
     where
       x : ℕ
@@ -148,10 +146,10 @@ module _ (rows : List ℕ) (facts : Facts rows) (s : State) (f : Formed s) (cpu 
   unfolding active_subject
   subject g = n.active_subjects g ∙ ap (λ (a : Group). a.active) (still_groups.groups g)
 
-  chosen : (q : ℕ) → (group_at s.programs (active_group s.programs q)).awake ≡ true → chosen_group rows marked q ≡ At (active_group marked q)
+  chosen : (q : ℕ) → (group_at s.programs (active_group s.programs q)).awake ≡ true → chosen_group rows marked q ≡ Some (active_group marked q)
   chosen q awake =
       n.chosen q (ap (λ (a : Group). a.awake) (still_groups.groups _ ∙ ap (group_at s.programs) (still_groups.active_groups q)) ∙ awake)
-      ∙ ap At (sym (n.active_groups q))
+      ∙ ap Some (sym (n.active_groups q))
 
   switches : NoSwitch rows cpu s (interrupt_call rows s cpu vector flag).state
   unfolding interrupt_call with_programs active_on

@@ -1,5 +1,6 @@
 -- What a call comes to, by cases on it once for all laws: the state as it was; with another clock; stopped; or an entry, after the flag was
 -- stored and after a tick, a source event or an interrupt. What holds in each of these ways holds of the call: of the state after it, and of the answer.
+use Rattle.std.specs.Prelude.{Option, Some, None}
 use Prim.Native.Nat.{ℕ, ◌<◌}
 use mathlib.Core.Bool.{Bool, true, false, true≢false}
 use mathlib.Core.List.{List}
@@ -28,13 +29,9 @@ use Rattle.calls.specs.declared.answer.Refusal.TheVariants.{OutOfRange, IllForme
 use Rattle.calls.specs.declared.answer.Refusal.TheVariants as refusal
 use Rattle.calls.specs.declared.call.Call.{Call}
 use Rattle.calls.specs.declared.call.Call.TheVariants as call
-use Rattle.calls.specs.declared.call.Heard.{Heard}
-use Rattle.calls.specs.declared.call.Heard.TheVariants as heard
 use Rattle.calls.specs.Answers.{nobody}
 use Rattle.scheduler.specs.declared.state.State.{State}
 use Rattle.scheduler.specs.declared.state.Stepped.{Stepped}
-use Rattle.scheduler.specs.declared.event.Stopping.{Stopping}
-use Rattle.scheduler.specs.declared.event.Stopping.TheVariants.{Goes, Stops}
 use Rattle.scheduler.specs.States.{entered_on, with_clock, with_programs, flag_stored, alone_on, halted}
 use Rattle.scheduler.specs.Entry.{entry_of}
 use Rattle.scheduler.specs.Calls.{plain, new_frame, refused, ticked_as, tick_call, stopping_of, stop, event_then, event_handled, hypercall_event, hypercall, trap_source, trap_call, interrupt_call, choose_call, report_call, masks_call, called}
@@ -43,7 +40,7 @@ use Rattle.scheduler.specs.Told.{is_stopped, tells_new_frame}
 use Rattle.scheduler.specs.Still.{made_on}
 
 -- a call is made on that CPU, if on any
-abbrev pub Made : Heard → ℕ → Type 0
+abbrev pub Made : Option Call → ℕ → Type 0
 Made h cpu = (c : ℕ) → made_on c h ≡ false → c ≡ cpu → ⊥
 
 -- a source event of a subject: one that the policy may list, or none
@@ -54,7 +51,7 @@ EventOf rows subject event = (event ≡ no_event) ⊎ ((number : ℕ) × (event 
 abbrev pub Quiet : Answer → Type 0
 Quiet a = (tells_new_frame a ≡ false) × (is_stopped a ≡ false)
 
-pub record Ways (rows : List ℕ) (h : Heard) (s : State) (P : Stepped → Type 0) : Type 0 where
+pub record Ways (rows : List ℕ) (h : Option Call) (s : State) (P : Stepped → Type 0) : Type 0 where
   -- a refusal, a report, masks, the tick of a waiting CPU
   pub same : (a : Answer) → Quiet a → P (record { state = s; answer = a })
   pub chose : (major : ℕ) → major < (counts_of rows).majors → P (record { state = with_clock s (chosen s.clock major); answer = Chosen })
@@ -75,14 +72,14 @@ pub record Ways (rows : List ℕ) (h : Heard) (s : State) (P : Stepped → Type 
 -- ---- the cases
 
 -- a call on a CPU is made on no other
-made : (h : Heard) (cpu : ℕ) → ((c : ℕ) → made_on c h ≡ eqb cpu c) → Made h cpu
+made : (h : Option Call) (cpu : ℕ) → ((c : ℕ) → made_on c h ≡ eqb cpu c) → Made h cpu
 made h cpu e c f q = true≢false (sym (eq-eqb cpu c (sym q)) ∙ sym (e c) ∙ f)
 
 event_of : (rows : List ℕ) (subject event : ℕ) → EventOf rows subject (hypercall_event rows subject event)
 unfolding hypercall_event
 event_of rows subject event = by_cond (EventOf rows subject) (ltb event 16) _ _ (λ e. inr (event, refl)) (λ e. inl refl)
 
-module _ (rows : List ℕ) (h : Heard) (s : State) (P : Stepped → Type 0) (w : Ways rows h s P) where
+module _ (rows : List ℕ) (h : Option Call) (s : State) (P : Stepped → Type 0) (w : Ways rows h s P) where
   refuses : (why : Refusal) → P (refused s why)
   unfolding refused
   refuses why = w.same (Refused why) (refl, refl)
@@ -103,9 +100,9 @@ module _ (rows : List ℕ) (h : Heard) (s : State) (P : Stepped → Type 0) (w :
   unfolding event_handled event_then stop
   events cpu flag event advance m l n o = go (stopping_of event.action)
     where
-      go : (a : Stopping) → P (event_then rows (flag_stored s cpu flag) cpu (entered_on s cpu) event advance a)
-      go (Stops reason) = w.stopped cpu flag m l _ reason
-      go Goes = w.handles cpu flag event m l n o _ refl
+      go : (a : Option Reason) → P (event_then rows (flag_stored s cpu flag) cpu (entered_on s cpu) event advance a)
+      go (Some reason) = w.stopped cpu flag m l _ reason
+      go None = w.handles cpu flag event m l n o _ refl
 
   traps : (cpu trap flag : ℕ) → Made h cpu → cpu < (counts_of rows).cpus → (entered_on s cpu ≡ nobody → ⊥) → P (trap_call rows s cpu trap flag)
   unfolding trap_call trap_source stop
@@ -122,7 +119,7 @@ module _ (rows : List ℕ) (h : Heard) (s : State) (P : Stepped → Type 0) (w :
       (λ d. by_cond P (nobody_there s c) _ _ (λ a. refuses NobodyEntered) (λ a. f there a))))
 
   -- a call that is not refused
-  calls : (c : Call) → h ≡ heard.Call c → no_such rows c ≡ false → nobody_there s c ≡ false → P (called rows s c)
+  calls : (c : Call) → h ≡ Some c → no_such rows c ≡ false → nobody_there s c ≡ false → P (called rows s c)
   unfolding called no_such nobody_there hypercall interrupt_call choose_call report_call masks_call
   calls (call.Tick cpu flag) e a n = ticks cpu flag (made h cpu (λ c. ap (made_on c) e)) (leb-false _ _ a)
   calls (call.Hypercall cpu event flag) e a n =
@@ -133,7 +130,7 @@ module _ (rows : List ℕ) (h : Heard) (s : State) (P : Stepped → Type 0) (w :
   calls (call.Report partition) e a n = w.same _ (refl, refl)
   calls call.Masks e a n = w.same _ (refl, refl)
 
-pub by_ways : (rows : List ℕ) (h : Heard) (s : State) (P : Stepped → Type 0) → Ways rows h s P → P (served rows s h)
+pub by_ways : (rows : List ℕ) (h : Option Call) (s : State) (P : Stepped → Type 0) → Ways rows h s P → P (served rows s h)
 unfolding served
-by_ways rows heard.IllFormed s P w = refuses rows heard.IllFormed s P w IllFormed
-by_ways rows (heard.Call c) s P w = answers rows (heard.Call c) s P w c (calls rows (heard.Call c) s P w c refl)
+by_ways rows None s P w = refuses rows None s P w IllFormed
+by_ways rows (Some c) s P w = answers rows (Some c) s P w c (calls rows (Some c) s P w c refl)

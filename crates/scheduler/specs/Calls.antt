@@ -1,11 +1,10 @@
 -- The seven calls, in document 01's order: "Tick. Hypercall. Trap. Interrupt. .. Choose", report and masks. Each is said of a call that
 -- is not refused.
-use Rattle.std.specs.Prelude.{ℕ, Bool, true, false, cond, List, ltb}
+use Rattle.std.specs.Prelude.{ℕ, Bool, true, false, cond, List, ltb, Option, Some, None}
 use Rattle.rows.specs.Lookups.{cpu_of, partition_of, group_of}
 use Rattle.meaning.specs.declared.answer.Action.{Action}
 use Rattle.meaning.specs.declared.answer.Action.TheVariants as action
 use Rattle.meaning.specs.declared.answer.Signal.{Signal}
-use Rattle.meaning.specs.declared.answer.Signal.TheVariants as signal
 use Rattle.meaning.specs.declared.answer.SourceEvent.{SourceEvent}
 use Rattle.meaning.specs.Answers.{no_event}
 use Rattle.meaning.specs.Lookups.{source_event, trap_event}
@@ -15,8 +14,6 @@ use Rattle.clock.specs.declared.time.Tick.TheVariants as tick
 use Rattle.clock.specs.Time.{ticks_left, count_now, count_last, tick_of, chosen}
 use Rattle.programs.specs.Signals.{interrupted}
 use Rattle.programs.specs.Source.{handled}
-use Rattle.calls.specs.declared.answer.Kick.{Kick}
-use Rattle.calls.specs.declared.answer.Kick.TheVariants as kick
 use Rattle.calls.specs.declared.answer.Notes.{Notes}
 use Rattle.calls.specs.declared.answer.Reason.{Reason}
 use Rattle.calls.specs.declared.answer.Reason.TheVariants.{Reboot, PowerOff, Panic, HighTrap}
@@ -27,8 +24,6 @@ use Rattle.calls.specs.declared.call.Call.{Call}
 use Rattle.calls.specs.declared.call.Call.TheVariants as call
 use Rattle.scheduler.specs.declared.state.State.{State}
 use Rattle.scheduler.specs.declared.state.Stepped.{Stepped}
-use Rattle.scheduler.specs.declared.event.Stopping.{Stopping}
-use Rattle.scheduler.specs.declared.event.Stopping.TheVariants.{Goes, Stops}
 use Rattle.scheduler.specs.States.{entered_on, with_clock, with_programs, flag_stored, alone_on, halted}
 use Rattle.scheduler.specs.Entry.{entry_of}
 
@@ -38,13 +33,13 @@ refused s why = record { state = s; answer = Refused why }
 
 -- neither bit 1 nor bit 4, and no kick
 abbrev pub plain : Notes
-plain = record { advance = false; new_frame = false; kick = kick.Nobody }
+plain = record { advance = false; new_frame = false; kick = None }
 
 -- ---- "Tick"
 
 -- "4 new frame (this tick opened a major frame)"
 abbrev pub new_frame : Notes
-new_frame = record { advance = false; new_frame = true; kick = kick.Nobody }
+new_frame = record { advance = false; new_frame = true; kick = None }
 
 -- by what plan time has come to, with the clock that it has then
 unfoldable pub ticked_as : List ℕ → State → ℕ → ℕ → Clock → Tick → Stepped
@@ -66,30 +61,30 @@ tick_call rows s cpu flag =
 -- ---- a source event handled, in a hypercall or a trap
 
 -- "Reboot, power off and panic stop"
-unfoldable pub stopping_of : Action → Stopping
-stopping_of action.Nothing = Goes
-stopping_of action.Sleep = Goes
-stopping_of action.Yield = Goes
-stopping_of (action.Handover subject) = Goes
-stopping_of (action.Unmask line) = Goes
-stopping_of action.Reboot = Stops Reboot
-stopping_of action.PowerOff = Stops PowerOff
-stopping_of action.Panic = Stops Panic
+unfoldable pub stopping_of : Action → Option Reason
+stopping_of action.Nothing = None
+stopping_of action.Sleep = None
+stopping_of action.Yield = None
+stopping_of (action.Handover subject) = None
+stopping_of (action.Unmask line) = None
+stopping_of action.Reboot = Some Reboot
+stopping_of action.PowerOff = Some PowerOff
+stopping_of action.Panic = Some Panic
 
 -- "Kick: exactly the target's CPU when a handled event says so"
-unfoldable pub kicked_by : List ℕ → Signal → Kick
-kicked_by rows signal.Nothing = kick.Nobody
-kicked_by rows (signal.To subject event kicks) =
-    cond kicks (kick.Cpu (cpu_of rows (partition_of rows (group_of rows subject)))) kick.Nobody
+unfoldable pub kicked_by : List ℕ → Option Signal → Option ℕ
+kicked_by rows None = None
+kicked_by rows (Some signal) =
+    cond signal.kick (Some (cpu_of rows (partition_of rows (group_of rows signal.subject)))) None
 
 -- "04 stopped (subject; reason ..)"
 unfoldable pub stop : State → ℕ → Reason → Stepped
 stop s subject reason = record { state = halted s; answer = Stopped subject reason }
 
 -- it stops, or its action and its target event are done and entry follows
-unfoldable pub event_then : List ℕ → State → ℕ → ℕ → SourceEvent → Bool → Stopping → Stepped
-event_then rows s cpu subject event advance (Stops reason) = stop s subject reason
-event_then rows s cpu subject event advance Goes =
+unfoldable pub event_then : List ℕ → State → ℕ → ℕ → SourceEvent → Bool → Option Reason → Stepped
+event_then rows s cpu subject event advance (Some reason) = stop s subject reason
+event_then rows s cpu subject event advance None =
     entry_of rows (with_programs s (handled rows s.programs subject event)) cpu
     (record { advance = advance; new_frame = false; kick = kicked_by rows event.signal })
 

@@ -1,16 +1,11 @@
 -- "Entry. Waiting: wait. Else the active group of the current partition if awake, or the next awake by the same round, becomes active;
 -- with none awake, idle." What is taken of the subject that is entered is `Entering.antt` of crate programs.
-use Rattle.std.specs.Prelude.{ℕ, cond, List}
-use Rattle.bits.specs.declared.top.Highest.{Highest}
-use Rattle.bits.specs.declared.top.Highest.TheVariants as top
+use Rattle.std.specs.Prelude.{ℕ, cond, List, Option, Some, None}
+use Rattle.meaning.specs.declared.answer.SubjectVector.{SubjectVector}
 use Rattle.clock.specs.Time.{waiting, ticks_left, current_partition}
-use Rattle.programs.specs.declared.round.Found.{Found}
-use Rattle.programs.specs.declared.round.Found.TheVariants.{Nobody, At}
 use Rattle.programs.specs.Parts.{active_subject, with_active}
 use Rattle.programs.specs.Round.{chosen_group}
 use Rattle.programs.specs.Entering.{entering}
-use Rattle.calls.specs.declared.answer.Injected.{Injected}
-use Rattle.calls.specs.declared.answer.Injected.TheVariants as injected
 use Rattle.calls.specs.declared.answer.Notes.{Notes}
 use Rattle.calls.specs.declared.answer.Answer.TheVariants.{Enter, Idle, Wait}
 use Rattle.calls.specs.Answers.{nobody}
@@ -19,9 +14,9 @@ use Rattle.scheduler.specs.declared.state.Stepped.{Stepped}
 use Rattle.scheduler.specs.States.{with_programs, with_entered}
 
 -- "taken and injected"
-unfoldable pub injected_of : Highest → Injected
-injected_of top.Nothing = injected.Nothing
-injected_of (top.At vector) = injected.Vector (record { 0 = vector })
+unfoldable pub injected_of : Option ℕ → Option SubjectVector
+injected_of None = None
+injected_of (Some vector) = Some (record { 0 = vector })
 
 -- a subject is entered on a CPU
 unfoldable pub enters : List ℕ → State → ℕ → ℕ → Notes → Stepped
@@ -33,10 +28,10 @@ enters rows s cpu subject notes =
     }
 
 -- the group that was found becomes active; "with none awake, idle", and "after .. idle, nobody on that CPU"
-unfoldable pub admitted : List ℕ → State → ℕ → ℕ → Notes → Found → Stepped
-admitted rows s cpu partition notes Nobody =
+unfoldable pub admitted : List ℕ → State → ℕ → ℕ → Notes → Option ℕ → Stepped
+admitted rows s cpu partition notes None =
     record { state = with_entered s cpu nobody; answer = Idle (ticks_left s.clock cpu) notes }
-admitted rows s cpu partition notes (At group) =
+admitted rows s cpu partition notes (Some group) =
     enters rows (with_programs s (with_active s.programs partition group)) cpu (active_subject s.programs group) notes
 
 -- "Waiting: wait", and "after wait .., nobody on that CPU"

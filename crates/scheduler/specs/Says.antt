@@ -1,12 +1,10 @@
 -- Laws of what an answer says of the call beside whom it enters: "It advances" of a hypercall, "it advances exactly for sleep and yield" of
 -- a trap, "Kick: exactly the target's CPU when a handled event says so", and "above 59: stop".
-use Rattle.std.specs.Prelude.{ℕ, ◌<◌, ◌≤◌, Bool, true, false, List, ◌≡◌}
+use Rattle.std.specs.Prelude.{ℕ, ◌<◌, ◌≤◌, Bool, true, false, List, ◌≡◌, Option, None}
 use Rattle.clock.specs.Time.{waiting}
 use Rattle.meaning.specs.declared.answer.SourceEvent.{SourceEvent}
 use Rattle.meaning.specs.Answers.{no_event}
 use Rattle.meaning.specs.Lookups.{source_event, trap_event}
-use Rattle.calls.specs.declared.answer.Kick.{Kick}
-use Rattle.calls.specs.declared.answer.Kick.TheVariants.{Nobody}
 use Rattle.calls.specs.declared.answer.Reason.TheVariants.{HighTrap}
 use Rattle.calls.specs.declared.answer.Answer.{Answer}
 use Rattle.calls.specs.declared.answer.Answer.TheVariants.{Enter, Idle, Wait, GoOn, Stopped, Chosen, Report, Masks, Refused}
@@ -29,16 +27,16 @@ tells_advance (Masks lines) = false
 tells_advance (Refused why) = false
 
 -- "kicked CPU or FF"
-abbrev pub tells_kick : Answer → Kick
+abbrev pub tells_kick : Answer → Option ℕ
 tells_kick (Enter subject left injected reset notes) = notes.kick
 tells_kick (Idle left notes) = notes.kick
-tells_kick Wait = Nobody
-tells_kick (GoOn subject left) = Nobody
-tells_kick (Stopped subject reason) = Nobody
-tells_kick Chosen = Nobody
-tells_kick (Report partition now last) = Nobody
-tells_kick (Masks lines) = Nobody
-tells_kick (Refused why) = Nobody
+tells_kick Wait = None
+tells_kick (GoOn subject left) = None
+tells_kick (Stopped subject reason) = None
+tells_kick Chosen = None
+tells_kick (Report partition now last) = None
+tells_kick (Masks lines) = None
+tells_kick (Refused why) = None
 
 -- an exit that handled an event: what its answer says, where the core goes on
 pub record SaysOf (rows : List ℕ) (event : SourceEvent) (advance : Bool) (answer : Answer) : Type 0 where
@@ -62,6 +60,6 @@ pub record Says : Type 0 where
       → (called rows s (call.Trap cpu trap flag)).answer ≡ Stopped (entered_on s cpu) HighTrap
   -- ticks and interrupts say neither
   pub tick : (rows : List ℕ) (s : State) (cpu flag : ℕ) → tells_advance (called rows s (call.Tick cpu flag)).answer ≡ false
-  pub tick_kick : (rows : List ℕ) (s : State) (cpu flag : ℕ) → tells_kick (called rows s (call.Tick cpu flag)).answer ≡ Nobody
+  pub tick_kick : (rows : List ℕ) (s : State) (cpu flag : ℕ) → tells_kick (called rows s (call.Tick cpu flag)).answer ≡ None
   pub interrupt : (rows : List ℕ) (s : State) (cpu vector flag : ℕ) → tells_advance (called rows s (call.Interrupt cpu vector flag)).answer ≡ false
-  pub interrupt_kick : (rows : List ℕ) (s : State) (cpu vector flag : ℕ) → tells_kick (called rows s (call.Interrupt cpu vector flag)).answer ≡ Nobody
+  pub interrupt_kick : (rows : List ℕ) (s : State) (cpu vector flag : ℕ) → tells_kick (called rows s (call.Interrupt cpu vector flag)).answer ≡ None

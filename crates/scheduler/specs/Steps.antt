@@ -1,13 +1,11 @@
 -- "Refused, first that applies", 80 to 85, and one call of any policy and state whatever.
-use Rattle.std.specs.Prelude.{ℕ, Bool, true, false, cond, ◌&&◌, List, ltb, leb, eqb}
+use Rattle.std.specs.Prelude.{ℕ, Bool, true, false, cond, ◌&&◌, List, ltb, leb, eqb, Option, Some, None}
 use Rattle.rows.specs.Lookups.{counts_of}
 use Rattle.policy.specs.declared.value.Policy.{Policy}
 use Rattle.policy.specs.Writes.{known}
 use Rattle.calls.specs.declared.answer.Refusal.TheVariants.{OutOfRange, IllFormed, NoSuch, BadFlag, Stopped, NobodyEntered}
 use Rattle.calls.specs.declared.call.Call.{Call}
 use Rattle.calls.specs.declared.call.Call.TheVariants.{Tick, Hypercall, Trap, Interrupt, Choose, Report, Masks}
-use Rattle.calls.specs.declared.call.Heard.{Heard}
-use Rattle.calls.specs.declared.call.Heard.TheVariants as heard
 use Rattle.calls.specs.Answers.{nobody}
 use Rattle.scheduler.specs.declared.state.State.{State}
 use Rattle.scheduler.specs.declared.state.Stepped.{Stepped}
@@ -66,10 +64,10 @@ answered rows s c =
     (cond (after_stop s c) (refused s Stopped) (cond (nobody_there s c) (refused s NobodyEntered) (called rows s c))))
 
 -- 81: "line ill formed, unknown kind or wrong length"
-unfoldable pub served : List ℕ → State → Heard → Stepped
-served rows s heard.IllFormed = refused s IllFormed
-served rows s (heard.Call c) = answered rows s c
+unfoldable pub served : List ℕ → State → Option Call → Stepped
+served rows s None = refused s IllFormed
+served rows s (Some c) = answered rows s c
 
 -- 80: "the policy handed in is as in P0, or the state has .. out of range"
-unfoldable pub step_of : Policy → State → Heard → Stepped
+unfoldable pub step_of : Policy → State → Option Call → Stepped
 step_of p s h = cond (known p && in_range p.rows s) (served p.rows s h) (refused s OutOfRange)

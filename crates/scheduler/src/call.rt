@@ -4,7 +4,7 @@ ghost use Rattle.scheduler.specs.Calls.{refused, plain, new_frame, tick_call, hy
 
 use crate::event::{advances, hypercall_event, trap_source};
 use crate::state::{State, Stepped};
-use calls::{Answer, Call, Kick, Notes, Reason, Refusal};
+use calls::{Answer, Call, Notes, Reason, Refusal};
 use clock::Tick;
 use meaning::HostVector;
 
@@ -15,11 +15,10 @@ const HIGHEST_TRAP: u8 = 59;
 fn plain() -> Notes
     ensures { result ≡ plain }
 {
-    let kick = Kick::Nobody;
     Notes {
         advance: false,
         new_frame: false,
-        kick,
+        kick: None,
     }
 }
 
@@ -27,11 +26,10 @@ fn plain() -> Notes
 fn new_frame() -> Notes
     ensures { result ≡ new_frame }
 {
-    let kick = Kick::Nobody;
     Notes {
         advance: false,
         new_frame: true,
-        kick,
+        kick: None,
     }
 }
 

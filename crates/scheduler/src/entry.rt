@@ -3,17 +3,15 @@ ghost use Rattle.std.specs.Prelude.{◌≡◌};
 ghost use Rattle.scheduler.specs.Entry.{injected_of, enters, admitted, entry_of};
 
 use crate::state::{NOBODY, State, Stepped};
-use bits::Highest;
-use calls::{Answer, Injected, Notes};
+use calls::{Answer, Notes};
 use meaning::SubjectVector;
-use programs::Found;
 
-fn injected_of(vector: Highest) -> Injected
+fn injected_of(vector: Option<u8>) -> Option<SubjectVector>
     ensures { result ≡ injected_of vector }
 {
     match vector {
-        Highest::Nothing => Injected::Nothing,
-        Highest::At(number) => Injected::Vector(SubjectVector(number)),
+        None => None,
+        Some(number) => Some(SubjectVector(number)),
     }
 }
 
@@ -45,11 +43,18 @@ impl State {
     }
 
     // The group that was found becomes active and its active subject is entered; with none awake, idle.
-    fn admitted(self, rows: &[u64], cpu: u8, partition: u8, notes: Notes, found: Found) -> Stepped
+    fn admitted(
+        self,
+        rows: &[u64],
+        cpu: u8,
+        partition: u8,
+        notes: Notes,
+        found: Option<u8>,
+    ) -> Stepped
         ensures { result ≡ admitted rows.now self cpu partition notes found }
     {
         match found {
-            Found::Nobody => {
+            None => {
                 let clock = self.clock;
                 let left = clock.ticks_left(cpu);
                 let state = self.with_entered(cpu, NOBODY);
@@ -58,7 +63,7 @@ impl State {
                     answer: Answer::Idle { left, notes },
                 }
             }
-            Found::At(group) => {
+            Some(group) => {
                 let programs = self.programs;
                 let kept = programs.group_at(group);
                 let moved = programs.with_active(partition, group);

@@ -4,32 +4,26 @@ ghost use Rattle.rows.specs.Lookups.{cpu_of, partition_of, group_of};
 ghost use Rattle.scheduler.specs.Calls.{stopping_of, kicked_by, stop, event_handled, hypercall_event, advances, trap_source};
 
 use crate::state::{State, Stepped};
-use calls::{Answer, Kick, Notes, Reason};
+use calls::{Answer, Notes, Reason};
 use meaning::{Action, Signal, SourceEvent, source_event, trap_event};
 use rows::{cpu_of, group_of, partition_of};
 
 // Source events go to so many.
 const EVENTS: u8 = 16;
 
-// Whether an action stops the core.
-#[derive(Clone, Copy, Drop)]
-pub enum Stopping {
-    Goes,
-    Stops(Reason),
-}
-
-fn stopping_of(action: Action) -> Stopping
+// Why an action stops the core, if it does.
+fn stopping_of(action: Action) -> Option<Reason>
     ensures { result ≡ stopping_of action }
 {
     match action {
-        Action::Nothing => Stopping::Goes,
-        Action::Sleep => Stopping::Goes,
-        Action::Yield => Stopping::Goes,
-        Action::Handover(_) => Stopping::Goes,
-        Action::Unmask(_) => Stopping::Goes,
-        Action::Reboot => Stopping::Stops(Reason::Reboot),
-        Action::PowerOff => Stopping::Stops(Reason::PowerOff),
-        Action::Panic => Stopping::Stops(Reason::Panic),
+        Action::Nothing => None,
+        Action::Sleep => None,
+        Action::Yield => None,
+        Action::Handover(_) => None,
+        Action::Unmask(_) => None,
+        Action::Reboot => Some(Reason::Reboot),
+        Action::PowerOff => Some(Reason::PowerOff),
+        Action::Panic => Some(Reason::Panic),
     }
 }
 
@@ -59,20 +53,22 @@ fn home_of(rows: &[u64], subject: u8) -> u8
 }
 
 // The CPU that a handled event kicks, if it says so.
-fn kicked_by(rows: &[u64], signal: Signal) -> Kick
+fn kicked_by(rows: &[u64], signal: Option<Signal>) -> Option<u8>
     ensures { result ≡ kicked_by rows.now signal }
 {
     match signal {
-        Signal::Nothing => Kick::Nobody,
-        Signal::To {
-            subject,
-            event: _,
-            kick,
-        } => {
+        None => None,
+        Some(
+            Signal {
+                subject,
+                event: _,
+                kick,
+            },
+        ) => {
             if kick {
-                return Kick::Cpu(home_of(rows, subject));
+                return Some(home_of(rows, subject));
             }
-            Kick::Nobody
+            None
         }
     }
 }
@@ -84,9 +80,10 @@ pub(crate) fn hypercall_event(rows: &[u64], subject: u8, event: u8) -> SourceEve
     if event < EVENTS {
         return source_event(rows, subject, event);
     }
-    let action = Action::Nothing;
-    let signal = Signal::Nothing;
-    SourceEvent { action, signal }
+    SourceEvent {
+        action: Action::Nothing,
+        signal: None,
+    }
 }
 
 // The source event of a trap.
@@ -121,8 +118,8 @@ impl State {
         let action = event.action;
         let stopping = stopping_of(action);
         match stopping {
-            Stopping::Stops(reason) => self.stop(subject, reason),
-            Stopping::Goes => {
+            Some(reason) => self.stop(subject, reason),
+            None => {
                 let signal = event.signal;
                 let kick = kicked_by(rows, signal);
                 let programs = self.programs;

@@ -5,17 +5,17 @@ ghost use Rattle.scheduler.specs.Start.{not_started, started_with, start_of};
 use crate::state::State;
 use policy::own_text::known_rows;
 use policy::{Policy, Reading};
-use rules::{Refusal, Verdict};
+use rules::Refusal;
 
 // The verdict, and beside it the state: fresh, or all zeros where nothing is started.
 #[derive(Clone, Copy, Drop)]
 pub struct Started {
-    pub verdict: Verdict,
+    pub verdict: Result<(), Refusal>,
     pub state: State,
 }
 
 // Nothing is started; the refusal is handed up with its line.
-fn not_started(verdict: Verdict) -> Started
+fn not_started(verdict: Result<(), Refusal>) -> Started
     ensures { result ≡ not_started verdict }
 {
     let state = State::zero();
@@ -28,11 +28,11 @@ pub fn start_with(policy: Policy) -> Started
 {
     let rows = policy.rows;
     if !known_rows(&rows) {
-        return not_started(Verdict::Refused(Refusal::NotAPolicy));
+        return not_started(Err(Refusal::NotAPolicy));
     }
     let state = State::fresh(&rows);
     Started {
-        verdict: Verdict::Accepted,
+        verdict: Ok(()),
         state,
     }
 }
@@ -41,7 +41,7 @@ pub fn start(reading: Reading) -> Started
     ensures { result ≡ start_of reading }
 {
     let verdict = reading.verdict;
-    let Verdict::Accepted = verdict else {
+    let Ok(()) = verdict else {
         return not_started(verdict);
     };
     start_with(reading.policy)

@@ -3,7 +3,7 @@ ghost use Rattle.std.specs.Prelude.{◌≡◌};
 ghost use Rattle.scheduler.specs.Steps.{no_such, bad_flag, minds, after_stop, nobody_there, answered, served, step_of};
 
 use crate::state::{NOBODY, State, Stepped};
-use calls::{Call, Heard, Refusal};
+use calls::{Call, Refusal};
 use policy::Policy;
 use policy::own_text::known_rows;
 use rows::counts_of;
@@ -150,17 +150,17 @@ impl State {
 }
 
 // A call of a state that is in range, under a policy that is known.
-pub fn serve(rows: &[u64], state: State, heard: Heard) -> Stepped
+pub fn serve(rows: &[u64], state: State, heard: Option<Call>) -> Stepped
     ensures { result ≡ served rows.now state heard }
 {
     match heard {
-        Heard::IllFormed => state.refused(Refusal::IllFormed),
-        Heard::Call(call) => state.answered(rows, call),
+        None => state.refused(Refusal::IllFormed),
+        Some(call) => state.answered(rows, call),
     }
 }
 
 // A call of any policy and state whatever.
-pub fn step(policy: Policy, state: State, heard: Heard) -> Stepped
+pub fn step(policy: Policy, state: State, heard: Option<Call>) -> Stepped
     ensures { result ≡ step_of policy state heard }
 {
     let rows = policy.rows;

@@ -5,7 +5,6 @@ use crate::format::line_end;
 use crate::print;
 use calls::hear;
 use policy::read;
-use rules::Verdict;
 use scheduler::{start, step};
 use std::io;
 
@@ -61,8 +60,8 @@ pub(crate) fn run(rt: &impl Print, text: &[u8], calls: &[u8]) -> io::Result<()> 
     let verdict = started.verdict;
     let state = started.state;
     match verdict {
-        Verdict::Refused(why) => print::refusal(rt, why),
-        Verdict::Accepted => {
+        Err(why) => print::refusal(rt, why),
+        Ok(()) => {
             print::words(rt, b"FE\n")?;
             let bench = Bench { policy, state };
             play(rt, bench, calls)

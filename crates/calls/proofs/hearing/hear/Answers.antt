@@ -7,4 +7,4 @@ pub returns-in_default : goal.returns-in_default
 returns-in_default c = sym (heard_unended _ (sym c.call_line-ended.ensures ∙ c.in_default.is))
 
 pub returns : goal.returns
-returns c = sym (heard_ended _ _ _ (sym c.call_line-ended.ensures ∙ c.in-Ended.is))
+returns c = sym (heard_ended _ _ _ (sym c.call_line-ended.ensures ∙ c.in-Some.is))

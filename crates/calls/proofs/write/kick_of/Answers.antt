@@ -2,10 +2,10 @@
 use Rattle.calls.specs.Answers.{kick_of}
 use Rattle.calls.proofs.write.kick_of.Goals as goal
 
-pub returns-in-Nobody : goal.returns-in-Nobody
+pub returns-in-None : goal.returns-in-None
 unfolding kick_of
-returns-in-Nobody c = rw c.in-Nobody.is
+returns-in-None c = rw c.in-None.is
 
-pub returns-in-Cpu : goal.returns-in-Cpu
+pub returns-in-Some : goal.returns-in-Some
 unfolding kick_of
-returns-in-Cpu c = rw c.in-Cpu.is
+returns-in-Some c = rw c.in-Some.is

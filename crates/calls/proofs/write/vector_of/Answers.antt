@@ -2,10 +2,10 @@
 use Rattle.calls.specs.Answers.{vector_of}
 use Rattle.calls.proofs.write.vector_of.Goals as goal
 
-pub returns-in-Nothing : goal.returns-in-Nothing
+pub returns-in-None : goal.returns-in-None
 unfolding vector_of
-returns-in-Nothing c = rw c.in-Nothing.is
+returns-in-None c = rw c.in-None.is
 
-pub returns-in-Vector : goal.returns-in-Vector
+pub returns-in-Some : goal.returns-in-Some
 unfolding vector_of
-returns-in-Vector c = rw c.in-Vector.is
+returns-in-Some c = rw c.in-Some.is

@@ -10,4 +10,4 @@ returns-then-row-eq0 c = rw (eq-eqb _ 0 (sym c.route_row-row.ensures ∙ c.if-ro
 
 pub returns : goal.returns
 unfolding route_of
-returns c = c.route_from.ensures ∙ rw (c.keyed_route-line.ensures, c.route_row-row.ensures, ne_eqb _ 0 (λ q. c.if-row-eq0.false (c.route_row-row.ensures ∙ q)))
+returns c = rw (c.route_from.ensures, c.keyed_route-line.ensures, c.route_row-row.ensures, ne_eqb _ 0 (λ q. c.if-row-eq0.false (c.route_row-row.ensures ∙ q)))

@@ -1,11 +1,11 @@
 -- `known_rows` meets its contract. The loop's invariant, `Knowing`: the lines judged so far, and what is left to judge gives the whole.
+use Rattle.std.specs.Prelude.{Ok}
 use native.Mathlib.Omega.{arith}
 use mathlib.Core.Path.{◌≡◌, refl, sym, ◌∙◌}
 use lib.ListN.{get_or}
 use Rattle.records.specs.declared.kind.Record.TheVariants.{End}
 use Rattle.rows.specs.Rows.{record_at}
 use Rattle.rules.specs.Rules.{verdict}
-use Rattle.rules.specs.declared.refusal.Verdict.TheVariants.{Accepted}
 use Rattle.policy.specs.Steps.{progress_after}
 use Rattle.policy.proofs.KnownLaws.{knowing_start, few, by_table, place_fits, knowing_skip, knowing_refused, knowing_on, end_refused, end_accepted}
 use Rattle.policy.proofs.own_text.known_rows.Goals as goal
@@ -34,18 +34,18 @@ slice_bounds-put-end c = sym c.loop-place.invariant.tied.size
 
 pub put-after-requires : goal.put-after-requires
 put-after-requires c =
-    let accepted : verdict c.loop-place.invariant.earlier (record_at c.loop-place.place (get_or c.args.given.now c.loop-place.place 0)) ≡ Accepted = (let at_verdict : c.verdict_of-verdict.result ≡ verdict c.loop-place.invariant.earlier (record_at c.loop-place.place (get_or c.args.given.now c.loop-place.place 0)) = (c.verdict_of-verdict.ensures
+    let accepted : verdict c.loop-place.invariant.earlier (record_at c.loop-place.place (get_or c.args.given.now c.loop-place.place 0)) ≡ Ok tt = (let at_verdict : c.verdict_of-verdict.result ≡ verdict c.loop-place.invariant.earlier (record_at c.loop-place.place (get_or c.args.given.now c.loop-place.place 0)) = (c.verdict_of-verdict.ensures
     ∙ rw (c.record_at-rec.ensures, c.row_at-row.ensures) (by_table _ _ _ _ _ _ c.loop-place.invariant _ _ refl)) in
-    sym at_verdict ∙ c.in-Accepted.is) in
+    sym at_verdict ∙ c.in-Ok.is) in
     (rw (c.record_at-rec.ensures, c.row_at-row.ensures) (place_fits _ _ _ _ _ _ c.loop-place.invariant _ accepted), omega (arith, few _ _ _ _ _ _ c.loop-place.invariant, c.loop-place.invariant.upto))
 
 pub loop-place-preserved : goal.loop-place-preserved
 unfolding progress_after
 loop-place-preserved c =
     let some : get_or c.args.given.now c.loop-place.place 0 ≡ 0 → ⊥ = λ q. (c.if-row-eq0.false (c.row_at-row.ensures ∙ q)) in
-    let accepted : verdict c.loop-place.invariant.earlier (record_at c.loop-place.place (get_or c.args.given.now c.loop-place.place 0)) ≡ Accepted = (let at_verdict : c.verdict_of-verdict.result ≡ verdict c.loop-place.invariant.earlier (record_at c.loop-place.place (get_or c.args.given.now c.loop-place.place 0)) = (c.verdict_of-verdict.ensures
+    let accepted : verdict c.loop-place.invariant.earlier (record_at c.loop-place.place (get_or c.args.given.now c.loop-place.place 0)) ≡ Ok tt = (let at_verdict : c.verdict_of-verdict.result ≡ verdict c.loop-place.invariant.earlier (record_at c.loop-place.place (get_or c.args.given.now c.loop-place.place 0)) = (c.verdict_of-verdict.ensures
     ∙ rw (c.record_at-rec.ensures, c.row_at-row.ensures) (by_table _ _ _ _ _ _ c.loop-place.invariant _ _ refl)) in
-    sym at_verdict ∙ c.in-Accepted.is) in
+    sym at_verdict ∙ c.in-Ok.is) in
     rw (c.put-after.ensures.0, c.put-after.ensures.1, c.record_at-rec.ensures, c.row_at-row.ensures)
     (knowing_on _ _ _ _ _ _ c.loop-place.invariant (omega arith) some accepted)
 
@@ -66,4 +66,4 @@ slice_bounds-same_rows-end c = sym c.loop-place.invariant.tied.size
 pub returns : goal.returns
 returns c =
     let end_verdict : c.verdict_of-verdict-2.result ≡ verdict c.loop-place.invariant.earlier (End c.loop-place.done.lines) = c.verdict_of-verdict-2.ensures ∙ by_table _ _ _ _ _ _ c.loop-place.invariant _ _ refl in
-    c.same_rows.ensures ∙ sym (end_accepted _ _ _ _ _ _ c.loop-place.invariant (omega arith) (sym end_verdict ∙ c.in-Accepted-verdict.is))
+    c.same_rows.ensures ∙ sym (end_accepted _ _ _ _ _ _ c.loop-place.invariant (omega arith) (sym end_verdict ∙ c.in-Ok-verdict.is))

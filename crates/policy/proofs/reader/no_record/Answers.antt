@@ -1,16 +1,11 @@
--- `no_record` meets its contract: each arm is one case of `no_record`.
+-- `no_record` meets its contract: a line that is one counts as ill formed.
 use mathlib.Core.Path.{◌∙◌}
 use Rattle.policy.specs.Reads.{no_record}
 use Rattle.policy.proofs.reader.no_record.Goals as goal
 
-pub returns-in-Got : goal.returns-in-Got
+pub returns-in-Ok : goal.returns-in-Ok
 unfolding no_record
-returns-in-Got c = c.refused.ensures ∙ rw c.in-Got.is
+returns-in-Ok c = c.refused.ensures ∙ rw c.in-Ok.is
 
-pub returns-in-IllFormed : goal.returns-in-IllFormed
-unfolding no_record
-returns-in-IllFormed c = c.refused-in-IllFormed.ensures ∙ rw c.in-IllFormed.is
-
-pub returns-in-WrongKind : goal.returns-in-WrongKind
-unfolding no_record
-returns-in-WrongKind c = c.refused-in-WrongKind.ensures ∙ rw c.in-WrongKind.is
+pub returns-in-Err : goal.returns-in-Err
+returns-in-Err c = c.refused_line.ensures ∙ rw c.in-Err.is

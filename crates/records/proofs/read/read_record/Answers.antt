@@ -16,4 +16,4 @@ unfolding record_of byte_at
 returns c =
     let size = c.size_of-size.ensures ∙ ap size_of c.byte_at-kind.ensures in
     let got = line_got _ _ _ (sym c.read_line-line.ensures ∙ c.in-Whole.is) (c.if-bytes-size.false ∙ size) in
-    rw (got, c.read_fields-rec.ensures, c.byte_at-kind.ensures)
+    rw (got, c.read_fields.ensures, c.byte_at-kind.ensures)

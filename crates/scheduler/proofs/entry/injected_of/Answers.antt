@@ -2,10 +2,10 @@
 use Rattle.scheduler.specs.Entry.{injected_of}
 use Rattle.scheduler.proofs.entry.injected_of.Goals as goal
 
-pub returns-in-Nothing : goal.returns-in-Nothing
+pub returns-in-None : goal.returns-in-None
 unfolding injected_of
-returns-in-Nothing c = rw c.in-Nothing.is
+returns-in-None c = rw c.in-None.is
 
-pub returns-in-At : goal.returns-in-At
+pub returns-in-Some : goal.returns-in-Some
 unfolding injected_of
-returns-in-At c = rw c.in-At.is
+returns-in-Some c = rw c.in-Some.is

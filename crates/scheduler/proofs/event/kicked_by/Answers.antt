@@ -4,12 +4,12 @@ use Rattle.scheduler.proofs.event.kicked_by.Goals as goal
 
 pub returns-then-kick : goal.returns-then-kick
 unfolding kicked_by
-returns-then-kick c = rw (c.in-To.is, c.if-kick.true, ← c.home_of.ensures)
+returns-then-kick c = rw (c.in-Some.is, c.if-kick.true, ← c.home_of.ensures)
 
-pub returns-in-Nothing : goal.returns-in-Nothing
+pub returns-in-None : goal.returns-in-None
 unfolding kicked_by
-returns-in-Nothing c = rw c.in-Nothing.is
+returns-in-None c = rw c.in-None.is
 
 pub returns-else-kick : goal.returns-else-kick
 unfolding kicked_by
-returns-else-kick c = rw (c.in-To.is, c.if-kick.false)
+returns-else-kick c = rw (c.in-Some.is, c.if-kick.false)

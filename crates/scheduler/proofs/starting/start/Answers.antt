@@ -9,4 +9,4 @@ returns-in_default c = c.not_started.ensures ∙ rw c.in_default.is
 
 pub returns : goal.returns
 unfolding start_of started_by
-returns c = rw c.in-Accepted.is c.start_with.ensures
+returns c = rw c.in-Ok.is c.start_with.ensures

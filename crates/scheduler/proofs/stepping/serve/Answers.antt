@@ -3,10 +3,10 @@ use Rattle.scheduler.specs.Steps.{served}
 use mathlib.Core.Path.{refl}
 use Rattle.scheduler.proofs.stepping.serve.Goals as goal
 
-pub returns-in-IllFormed : goal.returns-in-IllFormed
+pub returns-in-None : goal.returns-in-None
 unfolding served
-returns-in-IllFormed c = rw c.in-IllFormed.is c.refused.ensures
+returns-in-None c = rw c.in-None.is c.refused.ensures
 
-pub returns-in-Call : goal.returns-in-Call
+pub returns-in-Some : goal.returns-in-Some
 unfolding served
-returns-in-Call c = rw c.in-Call.is c.answered.ensures
+returns-in-Some c = rw c.in-Some.is c.answered.ensures

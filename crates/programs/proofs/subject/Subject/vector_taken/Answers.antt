@@ -7,10 +7,10 @@ use Rattle.programs.proofs.subject.Subject.vector_taken.Goals as goal
 pub returns-then-not-self : goal.returns-then-not-self
 returns-then-not-self c = taken_closed _ (not-true _ c.if-not-self.true)
 
-pub returns-in-Nothing : goal.returns-in-Nothing
+pub returns-in-None : goal.returns-in-None
 unfolding vector_taken_at
-returns-in-Nothing c = rw c.in-Nothing.is at (taken_open c.args.self _ (not-false _ c.if-not-self.false) c.highest-highest.ensures)
+returns-in-None c = rw c.in-None.is at (taken_open c.args.self _ (not-false _ c.if-not-self.false) c.highest-highest.ensures)
 
-pub returns-in-At : goal.returns-in-At
+pub returns-in-Some : goal.returns-in-Some
 unfolding vector_taken_at
-returns-in-At c = rw c.clear_vector-subject.ensures (rw c.in-At.is at (taken_open c.args.self _ (not-false _ c.if-not-self.false) c.highest-highest.ensures))
+returns-in-Some c = rw c.clear_vector-subject.ensures (rw c.in-Some.is at (taken_open c.args.self _ (not-false _ c.if-not-self.false) c.highest-highest.ensures))

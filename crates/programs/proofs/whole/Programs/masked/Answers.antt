@@ -2,10 +2,10 @@
 use Rattle.programs.specs.Signals.{masked}
 use Rattle.programs.proofs.whole.Programs.masked.Goals as goal
 
-pub returns-in-NoLine : goal.returns-in-NoLine
+pub returns-in-None : goal.returns-in-None
 unfolding masked
-returns-in-NoLine c = rw c.in-NoLine.is
+returns-in-None c = rw c.in-None.is
 
-pub returns-in-Line : goal.returns-in-Line
+pub returns-in-Some : goal.returns-in-Some
 unfolding masked
-returns-in-Line c = rw (c.in-Line.is, ← c.mark-masks.ensures) c.with_masks.ensures
+returns-in-Some c = rw (c.in-Some.is, ← c.mark-masks.ensures) c.with_masks.ensures

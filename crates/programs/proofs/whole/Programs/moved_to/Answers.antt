@@ -2,10 +2,10 @@
 use Rattle.programs.specs.Source.{moved_to}
 use Rattle.programs.proofs.whole.Programs.moved_to.Goals as goal
 
-pub returns-in-Nobody : goal.returns-in-Nobody
+pub returns-in-None : goal.returns-in-None
 unfolding moved_to
-returns-in-Nobody c = rw c.in-Nobody.is
+returns-in-None c = rw c.in-None.is
 
-pub returns-in-At : goal.returns-in-At
+pub returns-in-Some : goal.returns-in-Some
 unfolding moved_to
-returns-in-At c = rw c.in-At.is c.with_active.ensures
+returns-in-Some c = rw c.in-Some.is c.with_active.ensures

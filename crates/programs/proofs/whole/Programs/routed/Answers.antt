@@ -2,10 +2,10 @@
 use Rattle.programs.specs.Signals.{routed}
 use Rattle.programs.proofs.whole.Programs.routed.Goals as goal
 
-pub returns-in-Nowhere : goal.returns-in-Nowhere
+pub returns-in-None : goal.returns-in-None
 unfolding routed
-returns-in-Nowhere c = rw c.in-Nowhere.is
+returns-in-None c = rw c.in-None.is
 
-pub returns-in-To : goal.returns-in-To
+pub returns-in-Some : goal.returns-in-Some
 unfolding routed
-returns-in-To c = rw (c.in-To.is, ← c.vector_pending-marked.ensures, ← c.woke-awake.ensures) c.masked.ensures
+returns-in-Some c = rw (c.in-Some.is, ← c.vector_pending-marked.ensures, ← c.woke-awake.ensures) c.masked.ensures

@@ -3,10 +3,10 @@ use mathlib.Core.Path.{refl}
 use Rattle.programs.specs.Signals.{signalled}
 use Rattle.programs.proofs.whole.Programs.signalled.Goals as goal
 
-pub returns-in-Nothing : goal.returns-in-Nothing
+pub returns-in-None : goal.returns-in-None
 unfolding signalled
-returns-in-Nothing c = rw c.in-Nothing.is
+returns-in-None c = rw c.in-None.is
 
-pub returns-in-To : goal.returns-in-To
+pub returns-in-Some : goal.returns-in-Some
 unfolding signalled
-returns-in-To c = rw (c.in-To.is, ← c.event_pending-marked.ensures) c.woke.ensures
+returns-in-Some c = rw (c.in-Some.is, ← c.event_pending-marked.ensures) c.woke.ensures

@@ -4,10 +4,10 @@ use Rattle.programs.specs.Parts.{active_subject}
 use mathlib.Core.Path.{ap}
 use Rattle.scheduler.proofs.state.State.admitted.Goals as goal
 
-pub returns-in-Nobody : goal.returns-in-Nobody
+pub returns-in-None : goal.returns-in-None
 unfolding admitted
-returns-in-Nobody c = rw (c.in-Nobody.is, ← c.ticks_left-left.ensures, ← c.with_entered-state.ensures)
+returns-in-None c = rw (c.in-None.is, ← c.ticks_left-left.ensures, ← c.with_entered-state.ensures)
 
-pub returns-in-At : goal.returns-in-At
+pub returns-in-Some : goal.returns-in-Some
 unfolding admitted active_subject
-returns-in-At c = rw (c.in-At.is, ← ap (λ g. g.active) c.group_at-kept.ensures, ← c.with_active-moved.ensures, ← c.with_programs.ensures) c.enters.ensures
+returns-in-Some c = rw (c.in-Some.is, ← ap (λ g. g.active) c.group_at-kept.ensures, ← c.with_active-moved.ensures, ← c.with_programs.ensures) c.enters.ensures

@@ -2,10 +2,10 @@
 use Rattle.scheduler.specs.Calls.{event_handled, event_then}
 use Rattle.scheduler.proofs.state.State.event_handled.Goals as goal
 
-pub returns-in-Stops : goal.returns-in-Stops
+pub returns-in-Some : goal.returns-in-Some
 unfolding event_handled event_then
-returns-in-Stops c = rw (← c.stopping_of-stopping.ensures, c.in-Stops.is) c.stop.ensures
+returns-in-Some c = rw (← c.stopping_of-stopping.ensures, c.in-Some.is) c.stop.ensures
 
-pub returns-in-Goes : goal.returns-in-Goes
+pub returns-in-None : goal.returns-in-None
 unfolding event_handled event_then
-returns-in-Goes c = rw (← c.stopping_of-stopping.ensures, c.in-Goes.is, ← c.kicked_by-kick.ensures, ← c.handled-after.ensures, ← c.with_programs.ensures) c.entry.ensures
+returns-in-None c = rw (← c.stopping_of-stopping.ensures, c.in-None.is, ← c.kicked_by-kick.ensures, ← c.handled-after.ensures, ← c.with_programs.ensures) c.entry.ensures
