@@ -1,5 +1,5 @@
 -- `call_line` meets its contract: each arm is one of the three ways of `CallLaws`, by the line read.
-use mathlib.Core.Path.{refl, sym, ◌∙◌}
+use mathlib.Core.Path.{sym, ◌∙◌}
 use Rattle.calls.proofs.LineBytes.{whole_long}
 use Rattle.calls.proofs.CallLaws.{line_whole, line_ill_formed, line_none}
 use Rattle.calls.proofs.hearing.call_line.Goals as goal

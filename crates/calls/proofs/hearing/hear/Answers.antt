@@ -1,5 +1,5 @@
 -- `hear` meets its contract: what the line is heard as; without an end it is ill formed.
-use mathlib.Core.Path.{refl, sym, ◌∙◌}
+use mathlib.Core.Path.{sym, ◌∙◌}
 use Rattle.calls.proofs.CallLaws.{heard_ended, heard_unended}
 use Rattle.calls.proofs.hearing.hear.Goals as goal
 

@@ -1,5 +1,4 @@
 -- `default_event` meets its contract: the lookup where the number is in range.
-use mathlib.Core.Path.{refl}
 use borrow.Author.Tests.{lt-ltb, le-ltb}
 use Rattle.meaning.specs.Lookups.{default_event}
 use Rattle.meaning.proofs.lookup.default_event.Goals as goal

@@ -1,6 +1,6 @@
 -- `frame_count` meets its contract: before each turn, the count is that of the places so far.
 use native.Mathlib.Omega.{arith}
-use mathlib.Core.Path.{◌≡◌, refl, sym, ap, ◌∙◌}
+use mathlib.Core.Path.{◌≡◌, sym, ap, ◌∙◌}
 use Rattle.meaning.specs.Lookups.{frames_below, frame_count}
 use Rattle.meaning.proofs.FrameLaws.{none_below, one_below}
 use Rattle.meaning.proofs.lookup.frame_count.Goals as goal

@@ -1,5 +1,5 @@
 -- `route_of` meets its contract: nothing without a row, else what the line says.
-use mathlib.Core.Path.{refl, sym, ◌∙◌}
+use mathlib.Core.Path.{sym, ◌∙◌}
 use borrow.Author.Tests.{eq-eqb, ne_eqb}
 use Rattle.meaning.specs.Lookups.{route_of}
 use Rattle.meaning.proofs.lookup.route_of.Goals as goal

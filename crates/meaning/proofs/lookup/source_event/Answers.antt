@@ -1,5 +1,5 @@
 -- `source_event` meets its contract: nothing without a row, else what the line says.
-use mathlib.Core.Path.{refl, sym, ◌∙◌}
+use mathlib.Core.Path.{sym, ◌∙◌}
 use borrow.Author.Tests.{eq-eqb, ne_eqb}
 use Rattle.meaning.specs.Lookups.{source_event}
 use Rattle.meaning.specs.Answers.{no_event}

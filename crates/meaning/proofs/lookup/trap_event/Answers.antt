@@ -1,5 +1,5 @@
 -- `trap_event` meets its contract: the default without a row, else the event of the line.
-use mathlib.Core.Path.{refl, sym, ◌∙◌}
+use mathlib.Core.Path.{sym, ◌∙◌}
 use borrow.Author.Tests.{eq-eqb, ne_eqb}
 use Rattle.meaning.specs.Lookups.{trap_event}
 use Rattle.meaning.proofs.lookup.trap_event.Goals as goal

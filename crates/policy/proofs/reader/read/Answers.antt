@@ -1,7 +1,6 @@
 -- `read` meets its contract. The loop's invariant, `Going`: the table is tied to the lines read, and what is left is read as the whole.
 use Rattle.std.specs.Prelude.{Ok}
 use native.Mathlib.Omega.{arith}
-use mathlib.Core.Logic.{⊎_elim}
 use mathlib.Core.Path.{◌≡◌, refl, sym, ap, ◌∙◌}
 use Prim.Native.Nat.{ℕ, ◌+◌}
 use lib.ListN.{drop}
@@ -12,7 +11,6 @@ use Rattle.policy.specs.Reads.{refusal, handed_up, acceptance}
 use Rattle.policy.specs.Steps.{progress_after}
 use Rattle.policy.proofs.ReadLaws.{Going, tail_is, too_long, going_start, by_table, going_no_record, going_refused, going_on, going_place, end_accepted, end_missing}
 use Rattle.policy.proofs.reader.read.Goals.{After-rows-in-loop-at-2-1}
-use borrow.Enum.Refused.{opened}
 use Rattle.policy.proofs.reader.read.Goals as goal
 
 -- the loop stands after the line

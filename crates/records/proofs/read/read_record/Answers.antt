@@ -1,5 +1,5 @@
 -- `read_record` meets its contract: each return is one of the three ways of `LineLaws`, by the line read and its count of bytes.
-use mathlib.Core.Path.{refl, sym, ap, ◌∙◌}
+use mathlib.Core.Path.{sym, ap, ◌∙◌}
 use Rattle.hexline.specs.Lines.{byte_at}
 use Rattle.records.specs.Kinds.{size_of, record_of}
 use Rattle.records.proofs.LineLaws.{line_got, line_wrong, line_ill_formed}

@@ -1,6 +1,5 @@
 -- `serve` meets its contract: a line that is no call is refused, and a call is answered.
 use Rattle.scheduler.specs.Steps.{served}
-use mathlib.Core.Path.{refl}
 use Rattle.scheduler.proofs.stepping.serve.Goals as goal
 
 pub returns-in-None : goal.returns-in-None

@@ -1,5 +1,4 @@
 -- `chosen_group` meets its contract: its one test is whether the active group is awake.
-use mathlib.Core.Path.{refl}
 use Rattle.programs.specs.Round.{chosen_group}
 use Rattle.programs.proofs.whole.Programs.chosen_group.Goals as goal
 

@@ -1,5 +1,4 @@
 -- `entering` meets its contract: the subject is read, what it takes is taken, and it is stored.
-use mathlib.Core.Path.{refl}
 use Rattle.programs.specs.Entering.{entering}
 use Rattle.programs.proofs.whole.Programs.entering.Goals as goal
 

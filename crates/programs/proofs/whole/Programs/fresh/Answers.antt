@@ -1,5 +1,4 @@
 -- `fresh` meets its contract: every part is as the definition has it.
-use mathlib.Core.Path.{refl}
 use Rattle.programs.specs.Fresh.{fresh_programs}
 use Rattle.programs.proofs.whole.Programs.fresh.Goals as goal
 

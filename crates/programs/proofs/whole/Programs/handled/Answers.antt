@@ -1,5 +1,4 @@
 -- `handled` meets its contract: the action first, then the target event.
-use mathlib.Core.Path.{refl}
 use Rattle.programs.specs.Source.{handled}
 use Rattle.programs.proofs.whole.Programs.handled.Goals as goal
 

@@ -1,5 +1,5 @@
 -- `in_range` meets its contract: the first test that fails decides, or else the last.
-use mathlib.Core.Path.{sym, refl, ◌∙◌}
+use mathlib.Core.Path.{sym, ◌∙◌}
 use Rattle.programs.specs.Range.{masks_in_range, programs_in_range}
 use Rattle.programs.proofs.whole.Programs.in_range.Goals as goal
 

@@ -1,5 +1,4 @@
 -- `interrupted` meets its contract: what the policy says of the vector is done.
-use mathlib.Core.Path.{refl}
 use Rattle.programs.specs.Signals.{interrupted}
 use Rattle.programs.proofs.whole.Programs.interrupted.Goals as goal
 

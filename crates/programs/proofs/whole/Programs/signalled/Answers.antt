@@ -1,5 +1,4 @@
 -- `signalled` meets its contract: each way is one of its cases.
-use mathlib.Core.Path.{refl}
 use Rattle.programs.specs.Signals.{signalled}
 use Rattle.programs.proofs.whole.Programs.signalled.Goals as goal
 

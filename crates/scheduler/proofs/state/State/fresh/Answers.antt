@@ -1,6 +1,5 @@
 -- `fresh` meets its contract: plan time and programs at the start, nobody entered.
 use Rattle.scheduler.specs.States.{fresh_state}
-use mathlib.Core.Path.{refl}
 use Rattle.scheduler.proofs.state.State.fresh.Goals as goal
 
 pub returns : goal.returns

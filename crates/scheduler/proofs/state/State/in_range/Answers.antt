@@ -1,6 +1,6 @@
 -- `in_range` meets its contract: the first test that fails decides, or else the last.
 use Rattle.scheduler.specs.Range.{in_range}
-use mathlib.Core.Path.{refl, sym, ◌∙◌}
+use mathlib.Core.Path.{sym, ◌∙◌}
 use Rattle.scheduler.proofs.state.State.in_range.Goals as goal
 
 pub returns-then-not-in_range : goal.returns-then-not-in_range
