@@ -4,7 +4,7 @@ use mathlib.Core.Path.{◌≡◌, refl}
 use Rattle.records.specs.declared.kind.Record.{Record}
 use Rattle.records.specs.declared.kind.Record.TheVariants.{Header, Frame, Event, Target, Route}
 use Rattle.rows.specs.Places.{frames_place, place_of}
-use Rattle.rows.specs.Rows.{row_of, later_record_at, record_at}
+use Rattle.rows.specs.Rows.{row_of, record_at}
 
 -- `010203030201`, the header: 2 CPUs, 3 subjects, 3 groups, 2 partitions, 1 major
 header : Record
@@ -32,7 +32,7 @@ event : Record
 event = Event (record { subject = 0; event = 1; action = 0; irq = 255; target = 2; target_event = 5; kick = 1 })
 
 event_row_lem : (place_of 170 event ≡ 170) × (row_of event ≡ 1103789950209) × (record_at 170 1103789950209 ≡ event)
-unfolding event place_of row_of record_at later_record_at
+unfolding event place_of row_of record_at
 event_row_lem = (refl, refl, refl)
 
 -- `0802050130`: event 5 of subject 2 injects vector 30 hex
@@ -40,7 +40,7 @@ target : Record
 target = Target (record { subject = 2; event = 5; action = 1; vector = 48 })
 
 target_row_lem : (place_of 202 target ≡ 1454) × (row_of target ≡ 65840) × (record_at 1454 65840 ≡ target)
-unfolding target place_of row_of record_at later_record_at
+unfolding target place_of row_of record_at
 target_row_lem = (refl, refl, refl)
 
 -- `092101400A`: host vector 21 hex is vector 40 hex of subject 1, IRQ line 10
@@ -48,5 +48,5 @@ route : Record
 route = Route (record { host = 33; subject = 1; vector = 64; irq = 10 })
 
 route_row_lem : (place_of 1455 route ≡ 1930) × (row_of route ≡ 16859146) × (record_at 1930 16859146 ≡ route)
-unfolding route place_of row_of record_at later_record_at
+unfolding route place_of row_of record_at
 route_row_lem = (refl, refl, refl)

@@ -1,16 +1,17 @@
 -- Places: a line's place lies in the part of the table that its kind has, and only a minor frame's depends on the line before it.
 -- What stands in a part is a line of its kind: by the tests of `record_at`, which ask for the parts in their order.
 use Prim.Native.Nat.{ℕ, ◌+◌, ◌-◌, ◌≤◌, ◌<◌}
-use mathlib.Core.Path.{◌≡◌, refl, ◌∙◌}
+use mathlib.Core.Path.{◌≡◌, refl}
 use native.Mathlib.Omega.{arith}
 use lib.Dec.{ltb}
-use borrow.Author.Tests.{ltb-true, lt-ltb, le-ltb}
+use borrow.Author.Rules.{rules}
+use borrow.Author.Tests.{ltb-true, lt-ltb, le-ltb, tests}
 use Rattle.hexline.proofs.Cond.{by_cond}
 use Rattle.records.specs.declared.kind.FrameLine.{FrameLine}
 use Rattle.records.specs.declared.kind.Record.{Record}
 use Rattle.records.specs.declared.kind.Record.TheVariants.{Header, Partition, Group, Subject, Frame, Event, Trap, Target, Route, End}
 use Rattle.rows.specs.Places.{partitions_start, groups_start, subjects_start, frames_start, events_start, traps_start, targets_start, routes_start, row_count, frames_place, place_of}
-use Rattle.rows.specs.Rows.{counts_in, partition_at, group_at, subject_at, frame_at, event_at, trap_at, target_at, route_at, later_record_at, record_at}
+use Rattle.rows.specs.Rows.{counts_in, partition_at, group_at, subject_at, frame_at, event_at, trap_at, target_at, route_at, record_at}
 use Rattle.rows.specs.Lawful.{Fits, Room, part_start, part_end}
 
 -- ---- a minor frame's place
@@ -81,69 +82,41 @@ below next (Target t) h m = omega arith
 below next (Route w) h m = omega arith
 below next (End k) h m = absurd h
 
--- ---- what stands in a part, from the source events on
-
-module _ (place row : ℕ) where
-  pub event_later : place < traps_start → later_record_at place row ≡ Event (event_at (place - events_start) row)
-  unfolding later_record_at
-  event_later h = rw (lt-ltb place traps_start h)
-
-  pub trap_later : traps_start ≤ place → place < targets_start → later_record_at place row ≡ Trap (trap_at (place - traps_start) row)
-  unfolding later_record_at
-  trap_later l h = rw (le-ltb place traps_start l, lt-ltb place targets_start h)
-
-  pub target_later : targets_start ≤ place → place < routes_start → later_record_at place row ≡ Target (target_at (place - targets_start) row)
-  unfolding later_record_at
-  target_later l h = rw (le-ltb place traps_start (omega arith), le-ltb place targets_start l, lt-ltb place routes_start h)
-
-  pub route_later : routes_start ≤ place → place < row_count → later_record_at place row ≡ Route (route_at (place - routes_start) row)
-  unfolding later_record_at
-  route_later l h =
-      rw (le-ltb place traps_start (omega arith), le-ltb place targets_start (omega arith), le-ltb place routes_start l, lt-ltb place row_count h)
-
-  pub nothing_later : row_count ≤ place → later_record_at place row ≡ End 0
-  unfolding later_record_at
-  nothing_later l =
-      rw (le-ltb place traps_start (omega arith), le-ltb place targets_start (omega arith), le-ltb place routes_start (omega arith), le-ltb place row_count l)
-
 -- ---- what stands in a part
 
 module _ (place row : ℕ) where
   pub header_there : place < partitions_start → record_at place row ≡ Header (counts_in row)
   unfolding record_at
-  header_there h = rw (lt-ltb place partitions_start h)
+  header_there h = search (rules, tests)
 
   pub partition_there : partitions_start ≤ place → place < groups_start → record_at place row ≡ Partition (partition_at (place - partitions_start) row)
   unfolding record_at
-  partition_there l h = rw (le-ltb place partitions_start l, lt-ltb place groups_start h)
+  partition_there l h = search (rules, tests)
 
   pub group_there : groups_start ≤ place → place < subjects_start → record_at place row ≡ Group (group_at (place - groups_start) row)
   unfolding record_at
-  group_there l h = rw (le-ltb place partitions_start (omega arith), le-ltb place groups_start l, lt-ltb place subjects_start h)
+  group_there l h = search (rules, tests)
 
   pub subject_there : subjects_start ≤ place → place < frames_start → record_at place row ≡ Subject (subject_at (place - subjects_start) row)
   unfolding record_at
-  subject_there l h =
-      rw (le-ltb place partitions_start (omega arith), le-ltb place groups_start (omega arith), le-ltb place subjects_start l, lt-ltb place frames_start h)
+  subject_there l h = search (rules, tests)
 
   pub frame_there : frames_start ≤ place → place < events_start → record_at place row ≡ Frame (frame_at (place - frames_start) row)
   unfolding record_at
-  frame_there l h =
-      rw (le-ltb place partitions_start (omega arith), le-ltb place groups_start (omega arith), le-ltb place subjects_start (omega arith), le-ltb place frames_start l, lt-ltb place events_start h)
-
-  pub later_there : events_start ≤ place → record_at place row ≡ later_record_at place row
-  unfolding record_at
-  later_there l =
-      rw (le-ltb place partitions_start (omega arith), le-ltb place groups_start (omega arith), le-ltb place subjects_start (omega arith), le-ltb place frames_start (omega arith), le-ltb place events_start l)
+  frame_there l h = search (rules, tests)
 
   pub event_there : events_start ≤ place → place < traps_start → record_at place row ≡ Event (event_at (place - events_start) row)
-  event_there l h = later_there l ∙ event_later place row h
+  unfolding record_at
+  event_there l h = search (rules, tests)
 
   pub trap_there : traps_start ≤ place → place < targets_start → record_at place row ≡ Trap (trap_at (place - traps_start) row)
-  trap_there l h = later_there (omega arith) ∙ trap_later place row l h
+  unfolding record_at
+  trap_there l h = search (rules, tests)
 
   pub target_there : targets_start ≤ place → place < routes_start → record_at place row ≡ Target (target_at (place - targets_start) row)
-  target_there l h = later_there (omega arith) ∙ target_later place row l h
+  unfolding record_at
+  target_there l h = search (rules, tests)
 
   pub route_there : routes_start ≤ place → place < row_count → record_at place row ≡ Route (route_at (place - routes_start) row)
-  route_there l h = later_there (omega arith) ∙ route_later place row l h
+  unfolding record_at
+  route_there l h = search (rules, tests)

@@ -4,13 +4,11 @@ use Prim.Native.Nat.{ℕ, ◌+◌, ◌*◌, ◌-◌, ◌/◌, ◌%◌, ◌≤◌
 use mathlib.Core.Path.{◌≡◌, ap, ◌∙◌}
 use native.Mathlib.Omega.{arith}
 use borrow.Author.Rules.{rules}
-use lib.Dec.{ltb}
-use borrow.Author.Tests.{ltb-true, ltb-false}
-use Rattle.hexline.proofs.Cond.{by_cond}
+use borrow.Author.Tests.{tests}
 use Rattle.records.specs.declared.kind.Record.{Record}
 use Rattle.records.specs.declared.kind.Record.TheVariants.{Header, Partition, Group, Subject, Frame, Event, Trap, Target, Route, End}
 use Rattle.rows.specs.Places.{partitions_start, groups_start, subjects_start, frames_start, events_start, traps_start, targets_start, routes_start, row_count, frames_place, place_of}
-use Rattle.rows.specs.Rows.{row_of, later_record_at, record_at}
+use Rattle.rows.specs.Rows.{row_of, record_at}
 use Rattle.rows.specs.Lawful.{Fits, Room}
 use Rattle.rows.proofs.PlaceLaws.{place_frame_from, place_frame_below, header_there, partition_there, group_there, subject_there, frame_there, event_there, trap_there, target_there, route_there}
 
@@ -130,38 +128,7 @@ back next (Route w) h m =
     ))
 back next (End k) h m = absurd h
 
--- what is read off a place has a key of its part, and bytes for fields: first from the source events on
-later_fits : (place row : ℕ) → events_start ≤ place → place < row_count → Fits (later_record_at place row)
-unfolding Fits later_record_at
-later_fits place row l h =
-    by_cond Fits (ltb place traps_start) _ _
-    (λ e. let u = ltb-true place traps_start e in search rules)
-    (λ e. let l₁ = ltb-false place traps_start e in
-    by_cond Fits (ltb place targets_start) _ _
-    (λ e₁. let u = ltb-true place targets_start e₁ in search rules)
-    (λ e₁. let l₂ = ltb-false place targets_start e₁ in
-    by_cond Fits (ltb place routes_start) _ _
-    (λ e₂. let u = ltb-true place routes_start e₂ in search rules)
-    (λ e₂. let l₃ = ltb-false place routes_start e₂ in
-    by_cond Fits (ltb place row_count) _ _
-    (λ e₃. search rules)
-    (λ e₃. omega (arith, ltb-false place row_count e₃)))))
-
+-- what is read off a place has a key of its part, and bytes for fields
 pub fits : (place row : ℕ) → place < row_count → Fits (record_at place row)
 unfolding Fits record_at
-fits place row h =
-    by_cond Fits (ltb place partitions_start) _ _
-    (λ e. search rules)
-    (λ e. let l = ltb-false place partitions_start e in
-    by_cond Fits (ltb place groups_start) _ _
-    (λ e₁. let u = ltb-true place groups_start e₁ in search rules)
-    (λ e₁. let l₁ = ltb-false place groups_start e₁ in
-    by_cond Fits (ltb place subjects_start) _ _
-    (λ e₂. let u = ltb-true place subjects_start e₂ in search rules)
-    (λ e₂. let l₂ = ltb-false place subjects_start e₂ in
-    by_cond Fits (ltb place frames_start) _ _
-    (λ e₃. let u = ltb-true place frames_start e₃ in search rules)
-    (λ e₃. let l₃ = ltb-false place frames_start e₃ in
-    by_cond Fits (ltb place events_start) _ _
-    (λ e₄. let u = ltb-true place events_start e₄ in search rules)
-    (λ e₄. later_fits place row (ltb-false place events_start e₄) h)))))
+fits place row h = search (rules, tests)

@@ -72,15 +72,6 @@ target_at key row = record { subject = key / 32 % 256; event = key % 32; action 
 abbrev pub route_at : ℕ → ℕ → RouteLine
 route_at key row = record { host = key % 256; subject = row / 65536 % 256; vector = row / 256 % 256; irq = row % 256 }
 
--- the line whose row stands at a place, from the source events on
-unfoldable pub later_record_at : ℕ → ℕ → Record
-later_record_at place row =
-    cond (ltb place traps_start) (Event (event_at (place - events_start) row))
-    (cond (ltb place targets_start) (Trap (trap_at (place - traps_start) row))
-    (cond (ltb place routes_start) (Target (target_at (place - targets_start) row))
-    (cond (ltb place row_count) (Route (route_at (place - routes_start) row))
-    (End 0))))
-
 -- the line whose row stands at a place
 unfoldable pub record_at : ℕ → ℕ → Record
 record_at place row =
@@ -89,4 +80,8 @@ record_at place row =
     (cond (ltb place subjects_start) (Group (group_at (place - groups_start) row))
     (cond (ltb place frames_start) (Subject (subject_at (place - subjects_start) row))
     (cond (ltb place events_start) (Frame (frame_at (place - frames_start) row))
-    (later_record_at place row)))))
+    (cond (ltb place traps_start) (Event (event_at (place - events_start) row))
+    (cond (ltb place targets_start) (Trap (trap_at (place - traps_start) row))
+    (cond (ltb place routes_start) (Target (target_at (place - targets_start) row))
+    (cond (ltb place row_count) (Route (route_at (place - routes_start) row))
+    (End 0)))))))))

@@ -20,9 +20,10 @@ pub use lookup::{
 };
 pub use place::{GROUPS, PARTITIONS, ROWS, SUBJECTS, frames_place, place_of};
 pub use row::{counts_in, pack, record_at};
-pub use table::{row_at, set_row};
+pub use table::{item_or, row_at, set_row, store};
 
 // No code: that a line is read off its place and its row is this function's contract.
+#[tactic(auto, using(crate::proofs::Laws::laws))]
 pub fn lawful()
     ensures { Lawful }
 {}

@@ -1,5 +1,5 @@
 // What the lines of a table say of partitions, groups, subjects and plans. Past a part's keys a lookup says nothing that counts.
-ghost use Rattle.std.specs.Prelude.{◌≡◌};
+ghost use Rattle.std.specs.Prelude.{◌≡◌, ◌%◌, get_or};
 ghost use Rattle.rows.specs.Lookups.{counts_of, given, partition_given, cpu_of, group_given, partition_of, subject_given, group_of, default_of, framed, length_at};
 
 use crate::place::{GROUPS, PARTITIONS, SUBJECTS, frames_place};
@@ -8,93 +8,99 @@ use crate::table::row_at;
 use records::Counts;
 
 // The header's counts.
+#[tactic(auto, unfolding(crate::specs::Lookups::counts_of))]
 pub fn counts_of(rows: &[u64]) -> Counts
     ensures { result ≡ counts_of rows.now }
 {
-    let row = row_at(rows, 0);
-    counts_in(row)
+    counts_in(row_at(rows, 0))
 }
 
 // Whether a line has its row at a place.
+#[tactic(auto, unfolding(crate::specs::Lookups::given))]
 pub fn row_given(rows: &[u64], place: usize) -> bool
     ensures { result ≡ given rows.now place }
 {
     row_at(rows, place) != 0
 }
 
+// The last byte of the row at a place.
+fn last_byte(rows: &[u64], place: usize) -> u8
+    ensures { result ≡ get_or rows.now place 0 % 256 }
+{
+    let [.., last] = row_at(rows, place).to_be_bytes();
+    last
+}
+
 // Whether a line gives the partition.
+#[tactic(auto, unfolding(crate::specs::Lookups::partition_given))]
 pub fn partition_given(rows: &[u64], partition: u8) -> bool
     ensures { result ≡ partition_given rows.now partition }
 {
-    let place = PARTITIONS + (partition as usize);
-    row_at(rows, place) != 0
+    row_given(rows, PARTITIONS + partition as usize)
 }
 
 // The CPU of a partition.
+#[tactic(auto, unfolding(crate::specs::Lookups::cpu_of))]
 pub fn cpu_of(rows: &[u64], partition: u8) -> u8
     ensures { result ≡ cpu_of rows.now partition }
 {
-    let place = PARTITIONS + (partition as usize);
-    let row = row_at(rows, place);
-    (row % 256) as u8
+    last_byte(rows, PARTITIONS + partition as usize)
 }
 
 // Whether a line gives the group.
+#[tactic(auto, unfolding(crate::specs::Lookups::group_given))]
 pub fn group_given(rows: &[u64], group: u8) -> bool
     ensures { result ≡ group_given rows.now group }
 {
-    let place = GROUPS + (group as usize);
-    row_at(rows, place) != 0
+    row_given(rows, GROUPS + group as usize)
 }
 
 // The partition of a group.
+#[tactic(auto, unfolding(crate::specs::Lookups::partition_of))]
 pub fn partition_of(rows: &[u64], group: u8) -> u8
     ensures { result ≡ partition_of rows.now group }
 {
-    let place = GROUPS + (group as usize);
-    let row = row_at(rows, place);
-    (row % 256) as u8
+    last_byte(rows, GROUPS + group as usize)
 }
 
 // Whether a line gives the subject.
+#[tactic(auto, unfolding(crate::specs::Lookups::subject_given))]
 pub fn subject_given(rows: &[u64], subject: u8) -> bool
     ensures { result ≡ subject_given rows.now subject }
 {
-    let place = SUBJECTS + (subject as usize);
-    row_at(rows, place) != 0
+    row_given(rows, SUBJECTS + subject as usize)
 }
 
 // The group of a subject.
+#[tactic(auto, unfolding(crate::specs::Lookups::group_of))]
 pub fn group_of(rows: &[u64], subject: u8) -> u8
     ensures { result ≡ group_of rows.now subject }
 {
-    let place = SUBJECTS + (subject as usize);
-    let row = row_at(rows, place);
-    (row / 256 % 256) as u8
+    let [.., group, _] = row_at(rows, SUBJECTS + subject as usize).to_be_bytes();
+    group
 }
 
 // The default trap event of a subject.
+#[tactic(auto, unfolding(crate::specs::Lookups::default_of))]
 pub fn default_of(rows: &[u64], subject: u8) -> u8
     ensures { result ≡ default_of rows.now subject }
 {
-    let place = SUBJECTS + (subject as usize);
-    let row = row_at(rows, place);
-    (row % 256) as u8
+    last_byte(rows, SUBJECTS + subject as usize)
 }
 
 // Whether a major and CPU has a minor frame.
+#[tactic(auto, unfolding(crate::specs::Lookups::framed))]
 pub fn is_framed(rows: &[u64], major: u8, cpu: u8) -> bool
     ensures { result ≡ framed rows.now major cpu }
 {
-    let place = frames_place(major, cpu);
-    row_at(rows, place) != 0
+    row_given(rows, frames_place(major, cpu))
 }
 
 // The length of a minor frame of a major and CPU; 0 where there is none.
+#[tactic(auto, unfolding(crate::specs::Lookups::length_at, crate::specs::Places::frames_place))]
 pub fn length_at(rows: &[u64], major: u8, cpu: u8, minor: u8) -> u16
     ensures { result ≡ length_at rows.now major cpu minor }
 {
-    let place = frames_place(major, cpu) + (minor as usize);
-    let row = row_at(rows, place);
-    (row % 65536) as u16
+    let [.., high, low] = row_at(rows, frames_place(major, cpu) + minor as usize).to_be_bytes();
+    u16::from_be_bytes([high, low])
 }
