@@ -10,6 +10,7 @@ use lib.Dec.{ltb, eqb}
 use lib.ListN.{length, get_or, set, length-set}
 use lib.Seq.{get_or-set_same, get_or-set_other}
 use borrow.Author.Tests.{eq-eqb, ne_eqb, eqb-false, ltb-true, ltb-false, le-ltb}
+use Rattle.std.proofs.lemmas.Bool.{cond-true, cond-false}
 use Rattle.hexline.proofs.Cond.{by_cond}
 use Rattle.rows.specs.Lookups.{counts_of, cpu_of}
 use Rattle.rules.proofs.Below.{below_stop}
@@ -26,7 +27,6 @@ use Rattle.clock.specs.Ledger.{laid, planned, one, occurs}
 use Rattle.clock.specs.PlanOf.{rest_of}
 use Rattle.clock.specs.Lasting.{Formed}
 use Rattle.clock.specs.History.{waits, opens, refuses}
-use Rattle.clock.proofs.Choices.{cond_true, cond_false}
 use Rattle.clock.proofs.Lists.{occurs_laid}
 use Rattle.clock.proofs.Minors.{ahead_of, rest_is, busy_next, Less, less_on, less_wait, less_next}
 
@@ -69,7 +69,7 @@ charge_one xs x q l = go (ℕ_discrete q x)
         simp (ne_eqb x q (λ w. e (sym w))) (omega arith)
 
 one_self : (x : ℕ) → one x x ≡ 1
-one_self x = cond_true (eqb x x) 1 0 (eq-eqb x x refl)
+one_self x = cond-true (eqb x x) 1 0 (eq-eqb x x refl)
 
 module _ (rows : List ℕ) (facts : Facts rows) (k : Clock) (r : Ready rows k) (cpu : ℕ) (lc : cpu < (counts_of rows).cpus) (busy : waiting k cpu ≡ false) where
   some : (cpu_at k cpu).left ≡ 0 → ⊥
@@ -152,7 +152,7 @@ module _ (rows : List ℕ) (facts : Facts rows) (k : Clock) (r : Ready rows k) (
         shut = refl;
         taken = refl;
         runs = refl;
-        is = sym (cond_false _ _ _ (runs_on (one_less (cpu_at k cpu)) (λ e. omega arith)));
+        is = sym (cond-false _ _ _ (runs_on (one_less (cpu_at k cpu)) (λ e. omega arith)));
       }
 
   -- at the minor frame's end

@@ -8,10 +8,10 @@ use native.Mathlib.Omega.{arith}
 use lib.Dec.{ltb}
 use lib.ListN.{length}
 use lib.Seq.{take_all}
+use Rattle.std.proofs.lemmas.Bool.{cond-true}
 use Rattle.hexline.proofs.Cond.{by_cond}
 use Rattle.clock.specs.Ledger.{Plan, laid, layout, planned, sum, planned_in, occurs, Call, tick, choose, kept, Ledger, blank, charged, full, all_full, add_one, closed, settled, booked, booked_all, ledger, counted_in}
 use Rattle.clock.specs.Lawful.{Whole, AllWhole, last_choice, lengths, Believable}
-use Rattle.clock.proofs.Choices.{cond_true}
 use Rattle.clock.proofs.Sums.{sum_same}
 use Rattle.clock.proofs.Lists.{occurs_laid, length_laid}
 use Rattle.clock.proofs.Relation.{full_at}
@@ -93,8 +93,8 @@ module _ (plan : Plan) where
   pub kept_once : (cs : List Call) → kept plan (kept plan cs) ≡ kept plan cs
   unfolding kept
   kept_once [] = refl
-  kept_once (tick cpu ∷ cs) = again (ltb cpu plan.cpus) (tick cpu) (kept plan cs) (kept_once cs) (λ t. cond_true (ltb cpu plan.cpus) _ _ t)
-  kept_once (choose m ∷ cs) = again (ltb m plan.majors) (choose m) (kept plan cs) (kept_once cs) (λ t. cond_true (ltb m plan.majors) _ _ t)
+  kept_once (tick cpu ∷ cs) = again (ltb cpu plan.cpus) (tick cpu) (kept plan cs) (kept_once cs) (λ t. cond-true (ltb cpu plan.cpus) _ _ t)
+  kept_once (choose m ∷ cs) = again (ltb m plan.majors) (choose m) (kept plan cs) (kept_once cs) (λ t. cond-true (ltb m plan.majors) _ _ t)
 
   pub believe : Believable plan
   believe = record { long = long; counts = in_layouts; next = ledger_next; whole = whole; kept_once = kept_once }

@@ -81,10 +81,7 @@ major_first (f ∷ fs) = f.major
 last_plan : (plan : Plan) (gs : List Finished) (f : Finished) (fs : List Finished) → AllWhole plan gs → gs ≡ f ∷ fs
     → (q : ℕ) → counted_last plan gs q ≡ planned_in plan f.major q
 unfolding counted_last major_first
-last_plan plan [] f fs w e q = absurd (no (ap length e))
-  where
-    no : 0 ≡ suc (length fs) → ⊥
-    no h = omega arith
+last_plan plan [] f fs w e q = let h : 0 ≡ suc (length fs) = ap length e in absurd (omega arith)
 last_plan plan (g ∷ gs) f fs w e q = w.0.counts q ∙ ap (λ (x : List Finished). planned_in plan (major_first x) q) e
 
 -- ---- from the start

@@ -8,6 +8,7 @@ use native.Mathlib.Omega.{arith}
 use native.Mathlib.Decide.{ℕ_discrete}
 use lib.Dec.{ltb, leb, eqb}
 use borrow.Author.Tests.{ne_eqb, ltb-true, lt-ltb, leb-true, le-leb}
+use Rattle.std.proofs.lemmas.Bool.{cond-false}
 use Rattle.hexline.proofs.Cond.{both}
 use Rattle.rows.specs.Lookups.{counts_of, cpu_of}
 use Rattle.rules.specs.Rules.{all_below}
@@ -19,7 +20,7 @@ use Rattle.clock.specs.Time.{cpu_at, current_frame, current_partition, ticks_lef
 use Rattle.clock.specs.Ledger.{planned, one, occurs}
 use Rattle.clock.specs.PlanOf.{rest_of}
 use Rattle.clock.specs.Lasting.{room_for, lasting_clock}
-use Rattle.clock.proofs.Choices.{cond_false, below_all}
+use Rattle.clock.proofs.Choices.{below_all}
 use Rattle.clock.proofs.Lists.{occurs_laid}
 use Rattle.clock.proofs.Advance.{Advanced}
 use Rattle.clock.proofs.Carried.{carried_minor, carried_left, carried_rest, carried_last}
@@ -140,7 +141,7 @@ module _ (rows : List ℕ) (k : Clock) (s : Lasts rows k) (cpu : ℕ) (lc : cpu 
         omega arith
       where
         other : (q : ℕ) → (cpu_of rows q ≡ cpu → ⊥) → one x q ≡ 0
-        other q ne = cond_false (eqb x q) 1 0 (ne_eqb x q (λ e. ne (sym (ap (cpu_of rows) e) ∙ home)))
+        other q ne = cond-false (eqb x q) 1 0 (ne_eqb x q (λ e. ne (sym (ap (cpu_of rows) e) ∙ home)))
 
     pub advanced_lasts : Lasts rows k'
     advanced_lasts =

@@ -9,6 +9,7 @@ use lib.Dec.{ltb}
 use lib.ListN.{get_or, length-set}
 use lib.Seq.{get_or-set_same, get_or-set_other}
 use borrow.Author.Tests.{ltb-true}
+use Rattle.std.proofs.lemmas.Bool.{cond-true}
 use Rattle.hexline.proofs.Cond.{by_cond}
 use Rattle.clock.specs.declared.time.CpuClock.{CpuClock}
 use Rattle.clock.specs.declared.time.Clock.{Clock}
@@ -19,7 +20,6 @@ use Rattle.clock.specs.Time.{charged as charged_clock, settled as settled_clock}
 use Rattle.clock.specs.Lasting.{Formed}
 use Rattle.clock.specs.History.{waits, goes_on, opens, refuses}
 use Rattle.clock.specs.Keeps.{Leaves}
-use Rattle.clock.proofs.Choices.{cond_true}
 
 -- ---- the clock of every CPU at its first minor frame
 
@@ -47,7 +47,7 @@ formed_opened rows k f = record { cpus = refl; now = refl; last = f.now }
 
 pub tick_waits : (rows : List ℕ) (k : Clock) (cpu : ℕ) → waiting k cpu ≡ true → tick_of rows k cpu ≡ record { clock = k; what = Wait }
 unfolding tick_of
-tick_waits rows k cpu w = cond_true (waiting k cpu) _ _ w
+tick_waits rows k cpu w = cond-true (waiting k cpu) _ _ w
 
 module _ (rows : List ℕ) (k : Clock) (cpu : ℕ) where
   -- one that changes nothing

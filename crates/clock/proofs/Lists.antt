@@ -7,7 +7,7 @@ use mathlib.Core.Path.{◌≡◌, refl, ap, ◌∙◌}
 use native.Mathlib.Numerals.{sub-one}
 use native.Mathlib.Omega.{arith}
 use lib.Dec.{eqb}
-use lib.ListN.{length, take, drop, get_or, replicate, length-append, length-replicate}
+use lib.ListN.{length, take, drop, get_or, replicate, length-append, length-drop, length-replicate}
 use Rattle.meaning.specs.declared.answer.Frame.{Frame}
 use Rattle.clock.specs.Ledger.{laid, planned, one, occurs}
 use Rattle.clock.specs.Lawful.{lengths}
@@ -22,10 +22,7 @@ pub record Place (l : List ℕ) (d x : ℕ) (r : List ℕ) : Type 0 where
 
 -- an empty list is no list with a head
 no_head : (x : ℕ) (r : List ℕ) → [] ≡ x ∷ r → ⊥
-no_head x r e = suc_ne (ap length e)
-  where
-    suc_ne : 0 ≡ suc (length r) → ⊥
-    suc_ne h = omega arith
+no_head x r e = let h : 0 ≡ suc (length r) = ap length e in omega arith
 
 pub place_of : (l : List ℕ) (d x : ℕ) (r : List ℕ) → drop d l ≡ x ∷ r → Place l d x r
 unfolding occurs
@@ -56,13 +53,7 @@ place_of (y ∷ l) (suc d) x r e =
 
 -- nothing after a place within the list: it is the end
 pub at_end_lem : (l : List ℕ) (d : ℕ) → d ≤ length l → drop d l ≡ [] → d ≡ length l
-at_end_lem [] zero h e = refl
-at_end_lem [] (suc d) h e = absurd (omega arith)
-at_end_lem (y ∷ l) zero h e = absurd (no (ap length e))
-  where
-    no : suc (length l) ≡ 0 → ⊥
-    no g = omega arith
-at_end_lem (y ∷ l) (suc d) h e = ap suc (at_end_lem l d (omega arith) e)
+at_end_lem l d h e = let a = length-drop d l in let b = ap length e in omega arith
 
 -- ---- occurrences
 

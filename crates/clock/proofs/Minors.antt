@@ -10,6 +10,7 @@ use lib.Dec.{eqb}
 use lib.ListN.{length, drop, get_or, drop_of_length-le}
 use lib.Seq.{drop-cons, ext_get_or}
 use borrow.Author.Tests.{eq-eqb, ne_eqb}
+use Rattle.std.proofs.lemmas.Bool.{cond-true, cond-false}
 use Rattle.records.specs.declared.kind.Record.{Record}
 use Rattle.rows.specs.Lines.{table_of}
 use Rattle.rows.specs.Lookups.{counts_of, cpu_of}
@@ -23,7 +24,6 @@ use Rattle.clock.specs.declared.time.Clock.{Clock}
 use Rattle.clock.specs.Time.{cpu_at, current_frame, current_partition, ticks_left, first, one_less}
 use Rattle.clock.specs.Ledger.{laid, planned}
 use Rattle.clock.specs.PlanOf.{minors_from, minors_of, plan_of, rest_of}
-use Rattle.clock.proofs.Choices.{cond_true, cond_false}
 use Rattle.clock.proofs.Lists.{laid_some, laid_none}
 
 -- ---- the list of minor frames
@@ -97,7 +97,7 @@ module _ (rows : List ℕ) (m c q : ℕ) where
   from_none i zero h = refl
   from_none i (suc n) h =
       let a = from_none (i + 1) n (λ j x y. h j (omega arith) (omega arith)) in
-      let b = cond_false (eqb (frame_at rows m c i).partition q) (frame_at rows m c i).length 0 (ne_eqb _ _ (h i (omega arith) (omega arith))) in
+      let b = cond-false (eqb (frame_at rows m c i).partition q) (frame_at rows m c i).length 0 (ne_eqb _ _ (h i (omega arith) (omega arith))) in
       omega arith
 
 module _ (rows : List ℕ) (facts : Facts rows) (m c q : ℕ) (lm : m < (counts_of rows).majors) (lc : c < (counts_of rows).cpus) where
@@ -131,12 +131,12 @@ rest_is rows k cpu = refl
 module _ (rows : List ℕ) (m cpu : ℕ) (c : CpuClock) where
   pub idle : c.left ≡ 0 → ahead_of rows m cpu c ≡ []
   unfolding ahead_of
-  idle e = cond_true (eqb c.left 0) _ _ (eq-eqb _ _ e)
+  idle e = cond-true (eqb c.left 0) _ _ (eq-eqb _ _ e)
 
   pub busy : (c.left ≡ 0 → ⊥)
       → ahead_of rows m cpu c ≡ record { partition = (frame_at rows m cpu c.minor).partition; length = c.left } ∷ drop (c.minor + 1) (minors_of rows m cpu)
   unfolding ahead_of
-  busy e = cond_false (eqb c.left 0) _ _ (ne_eqb _ _ e)
+  busy e = cond-false (eqb c.left 0) _ _ (ne_eqb _ _ e)
 
 -- c' has one tick less ahead of it than c, a tick of c's minor frame
 unfoldable pub Less : List ℕ → ℕ → ℕ → CpuClock → CpuClock → Type 0

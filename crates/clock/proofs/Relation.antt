@@ -8,6 +8,7 @@ use native.Mathlib.Omega.{arith}
 use lib.Dec.{eqb}
 use lib.ListN.{length, take, drop}
 use borrow.Author.Tests.{eq-eqb, ne_eqb, eqb-true, eqb-false}
+use Rattle.std.proofs.lemmas.Bool.{cond-true, cond-false}
 use Rattle.rows.specs.Lookups.{counts_of, cpu_of}
 use Rattle.rules.proofs.Below.{below_same}
 use Rattle.accepted.specs.Facts.{Facts}
@@ -17,7 +18,6 @@ use Rattle.clock.specs.Time.{cpu_at, ticks_left, waiting, finished, count_now, a
 use Rattle.clock.specs.Ledger.{Plan, laid, layout, planned, planned_in, one, occurs, Ledger, charged, full, all_full, add_one, counted}
 use Rattle.clock.specs.PlanOf.{minors_of, plan_of, rest_of}
 use Rattle.clock.specs.Keeps.{Keeps}
-use Rattle.clock.proofs.Choices.{cond_true, cond_false}
 use Rattle.clock.proofs.Sums.{sum_change, sum_none, sum_le, sum_one}
 use Rattle.clock.proofs.Lists.{Place, place_of, at_end_lem, occurs_split, occurs_laid}
 use Rattle.clock.proofs.Minors.{minors_le, minors_none, ahead_of, rest_is, idle, busy_next}
@@ -32,8 +32,8 @@ unfolding counted charged add_one
 counted_more plan l cpu x r lc here q =
     let a = sum_change (λ c. occurs q (take (cond (eqb c cpu) (l.done c + 1) (l.done c)) (layout plan l.major c)))
     (λ c. occurs q (take (l.done c) (layout plan l.major c))) cpu plan.cpus
-    (λ c ne. ap (λ (n : ℕ). occurs q (take n (layout plan l.major c))) (cond_false (eqb c cpu) _ _ (ne_eqb c cpu ne))) lc in
-    let b = ap (λ (n : ℕ). occurs q (take n (layout plan l.major cpu))) (cond_true (eqb cpu cpu) (l.done cpu + 1) (l.done cpu) (eq-eqb cpu cpu refl)) in
+    (λ c ne. ap (λ (n : ℕ). occurs q (take n (layout plan l.major c))) (cond-false (eqb c cpu) _ _ (ne_eqb c cpu ne))) lc in
+    let b = ap (λ (n : ℕ). occurs q (take n (layout plan l.major cpu))) (cond-true (eqb cpu cpu) (l.done cpu + 1) (l.done cpu) (eq-eqb cpu cpu refl)) in
     let m = here.more q in
     omega arith
 

@@ -8,6 +8,7 @@ use native.Mathlib.Decide.{ℕ_discrete}
 use lib.Dec.{eqb}
 use lib.ListN.{length, drop}
 use borrow.Author.Tests.{eq-eqb, ne_eqb}
+use Rattle.std.proofs.lemmas.Bool.{cond-true, cond-false}
 use Rattle.rows.specs.Lookups.{counts_of}
 use Rattle.accepted.specs.Facts.{Facts}
 use Rattle.clock.specs.declared.time.Clock.{Clock}
@@ -16,7 +17,6 @@ use Rattle.clock.specs.Ledger.{laid, layout, one, choose, Ledger, blank, charged
 use Rattle.clock.specs.PlanOf.{minors_of, plan_of, rest_of}
 use Rattle.clock.specs.Lasting.{Formed}
 use Rattle.clock.specs.Keeps.{Keeps}
-use Rattle.clock.proofs.Choices.{cond_true, cond_false}
 use Rattle.clock.proofs.Lists.{Place, place_of}
 use Rattle.clock.proofs.Advance.{Advanced}
 use Rattle.clock.proofs.Leaves.{formed_fresh, formed_choose, formed_opened}
@@ -92,11 +92,11 @@ module _ (rows : List ℕ) (k : Clock) (l : Ledger) (i : Keeps rows k l) (cpu : 
   -- what a CPU has done, by the ledger with one tick more
   done_same : (add_one l cpu).done cpu ≡ l.done cpu + 1
   unfolding add_one
-  done_same = cond_true (eqb cpu cpu) (l.done cpu + 1) (l.done cpu) (eq-eqb cpu cpu refl)
+  done_same = cond-true (eqb cpu cpu) (l.done cpu + 1) (l.done cpu) (eq-eqb cpu cpu refl)
 
   done_other : (c : ℕ) → (c ≡ cpu → ⊥) → (add_one l cpu).done c ≡ l.done c
   unfolding add_one
-  done_other c ne = cond_false (eqb c cpu) (l.done c + 1) (l.done c) (ne_eqb c cpu ne)
+  done_other c ne = cond-false (eqb c cpu) (l.done c + 1) (l.done c) (ne_eqb c cpu ne)
 
   place_at : (c : ℕ) → c < (counts_of rows).cpus → Dec (c ≡ cpu) → drop ((add_one l cpu).done c) (layout (plan_of rows) l.major c) ≡ laid (rest_of rows k' c)
   place_at c h (yes e) =

@@ -6,6 +6,7 @@ use mathlib.Core.List.{List}
 use mathlib.Core.Path.{◌≡◌, refl, ap, sym, subst, ◌∙◌}
 use native.Mathlib.Omega.{arith}
 use lib.ListN.{length}
+use Rattle.std.proofs.lemmas.Bool.{cond-true, cond-false}
 use Rattle.hexline.proofs.Cond.{by_cond}
 use Rattle.rows.specs.Lookups.{counts_of}
 use Rattle.accepted.specs.Facts.{Facts}
@@ -18,7 +19,6 @@ use Rattle.clock.specs.Ledger.{one, Ledger, full, all_full, add_one, closed, set
 use Rattle.clock.specs.PlanOf.{plan_of}
 use Rattle.clock.specs.History.{waits, opens, refuses}
 use Rattle.clock.specs.Keeps.{Keeps, Charges, TickKeeps, plan_next}
-use Rattle.clock.proofs.Choices.{cond_true, cond_false}
 use Rattle.clock.proofs.Advance.{Ran, part_known, part_home, ran}
 use Rattle.clock.proofs.Leaves.{tick_waits}
 use Rattle.clock.proofs.Relation.{counted_none, full_at, full_waits, all_same, ready}
@@ -38,14 +38,14 @@ settles rows facts k l i w shut taken runs =
     by_cond (Settled rows l) (all_finished rows k) _ _
     (λ t. let e = all_same rows k l i ∙ t in
     record {
-      keeps = subst (Keeps rows (opened rows k)) (sym (cond_true (all_full (plan_of rows) l) (closed (plan_of rows) l) l e)) (opened_keeps rows facts k l i);
+      keeps = subst (Keeps rows (opened rows k)) (sym (cond-true (all_full (plan_of rows) l) (closed (plan_of rows) l) l e)) (opened_keeps rows facts k l i);
       opened = sym e;
       taken = refl;
       runs = refl;
     })
     (λ f. let e = all_same rows k l i ∙ f in
     record {
-      keeps = subst (Keeps rows k) (sym (cond_false (all_full (plan_of rows) l) (closed (plan_of rows) l) l e)) i;
+      keeps = subst (Keeps rows k) (sym (cond-false (all_full (plan_of rows) l) (closed (plan_of rows) l) l e)) i;
       opened = shut ∙ sym e;
       taken = taken;
       runs = runs;
@@ -68,7 +68,7 @@ module _ (rows : List ℕ) (facts : Facts rows) (k : Clock) (l : Ledger) (i : Ke
   unfolding booked
   idle w =
       let e = full_waits rows k l i cpu lc ∙ w in
-      let same = cond_true (full (plan_of rows) l cpu) l (settled (plan_of rows) (add_one l cpu)) e in
+      let same = cond-true (full (plan_of rows) l cpu) l (settled (plan_of rows) (add_one l cpu)) e in
       record {
         keeps = subst (Keeps rows k) (sym same) i;
         taken = refl;
@@ -95,11 +95,11 @@ module _ (rows : List ℕ) (facts : Facts rows) (k : Clock) (l : Ledger) (i : Ke
     -- as long as the frame is not finished, and where it is
     goes : opens (tick_of rows k cpu).what ≡ false → Keeps rows (tick_of rows k cpu).clock (add_one l cpu)
     unfolding settled
-    goes o = subst (Keeps rows (tick_of rows k cpu).clock) (cond_false _ (closed (plan_of rows) (add_one l cpu)) (add_one l cpu) (sym s.opened ∙ o)) s.keeps
+    goes o = subst (Keeps rows (tick_of rows k cpu).clock) (cond-false _ (closed (plan_of rows) (add_one l cpu)) (add_one l cpu) (sym s.opened ∙ o)) s.keeps
 
     closes : opens (tick_of rows k cpu).what ≡ true → Keeps rows (tick_of rows k cpu).clock (closed (plan_of rows) (add_one l cpu))
     unfolding settled
-    closes o = subst (Keeps rows (tick_of rows k cpu).clock) (cond_true _ (closed (plan_of rows) (add_one l cpu)) (add_one l cpu) (sym s.opened ∙ o)) s.keeps
+    closes o = subst (Keeps rows (tick_of rows k cpu).clock) (cond-true _ (closed (plan_of rows) (add_one l cpu)) (add_one l cpu) (sym s.opened ∙ o)) s.keeps
 
     one_more : (q : ℕ) → counted (plan_of rows) (add_one l cpu) q ≡ count_now k q + one (current_partition rows k cpu) q
     one_more q = more rows k l i cpu lc (current_partition rows k cpu) r.after r.advanced q
@@ -125,7 +125,7 @@ module _ (rows : List ℕ) (facts : Facts rows) (k : Clock) (l : Ledger) (i : Ke
     unfolding booked
     busy =
         let e = full_waits rows k l i cpu lc ∙ b in
-        let same = cond_false (full (plan_of rows) l cpu) l (settled (plan_of rows) (add_one l cpu)) e in
+        let same = cond-false (full (plan_of rows) l cpu) l (settled (plan_of rows) (add_one l cpu)) e in
         record {
           keeps = subst (Keeps rows (tick_of rows k cpu).clock) (sym same) s.keeps;
           taken = s.taken;

@@ -1,24 +1,25 @@
 // What a tick and a choice do to the clock.
-ghost use Rattle.std.specs.Prelude.{◌≡◌, ◌≤◌};
-ghost use Rattle.rules.specs.Rules.{all_below};
-ghost use Rattle.clock.specs.Time.{most_count, count_now, finished, with_cpu, charged, one_less, less_left, moved, opened, settled, tick_of, chosen};
+#![tactic(auto, unfolding(crate::specs::Time::with_cpu, crate::specs::Time::charged, crate::specs::Time::count_now, crate::specs::Time::one_less, crate::specs::Time::less_left, crate::specs::Time::moved, crate::specs::Time::opened, crate::specs::Time::all_finished, crate::specs::Time::settled, crate::specs::Time::tick_of, crate::specs::Time::chosen))]
 
-use crate::time::{CPUS, Clock, CpuClock, PARTITIONS, Tick, Ticked, firsts};
+ghost use Rattle.std.specs.Prelude.{◌≡◌, ◌≤◌};
+ghost use Rattle.clock.specs.Time.{most_count, count_now, with_cpu, charged, one_less, less_left, moved, opened, all_finished, settled, tick_of, chosen};
+
+use crate::time::{Clock, CpuClock, PARTITIONS, Tick, Ticked, firsts};
 use meaning::{frame_at, frame_count};
-use rows::counts_of;
+use rows::{counts_of, store};
 
 // Counts go to so many.
 pub const MOST_COUNT: u16 = 32000;
 
 impl CpuClock {
     // One tick less is left.
-    fn less(mut self) -> CpuClock
+    fn less(self) -> CpuClock
         ensures { result ≡ one_less self }
     {
-        if 0 < self.left {
-            self.left -= 1;
+        CpuClock {
+            left: self.left.saturating_sub(1),
+            ..self
         }
-        self
     }
 }
 
@@ -26,11 +27,7 @@ impl Clock {
     fn with_cpu(mut self, cpu: u8, c: CpuClock) -> Clock
         ensures { result ≡ with_cpu self cpu c }
     {
-        if CPUS <= cpu {
-            return self;
-        }
-        let at = cpu as usize;
-        self.cpus[at] = c;
+        store(&mut self.cpus, cpu as usize, c);
         self
     }
 
@@ -39,11 +36,8 @@ impl Clock {
         requires { count_now self partition ≤ most_count }
         ensures { result ≡ charged self partition }
     {
-        if PARTITIONS <= partition {
-            return self;
-        }
-        let at = partition as usize;
-        self.now[at] += 1;
+        let count = self.count_now(partition);
+        store(&mut self.now, partition as usize, count + 1);
         self
     }
 
@@ -51,70 +45,53 @@ impl Clock {
     fn less_left(self, cpu: u8) -> Clock
         ensures { result ≡ less_left self cpu }
     {
-        let c = self.cpu_at(cpu);
-        let less = c.less();
-        self.with_cpu(cpu, less)
+        self.with_cpu(cpu, self.cpu_at(cpu).less())
     }
 
     // The minor frame has ended: the next one, or after the last the CPU waits.
     fn moved(self, rows: &[u64], cpu: u8) -> Clock
         ensures { result ≡ moved rows.now self cpu }
     {
-        let major = self.major;
-        let c = self.cpu_at(cpu);
-        let minor = c.minor;
-        let count = frame_count(rows, major, cpu);
-        if count <= minor {
-            return self.with_cpu(cpu, CpuClock { minor, left: 0 });
-        }
-        let next = minor + 1;
-        if next < count {
-            let frame = frame_at(rows, major, cpu, next);
-            let left = frame.length;
-            return self.with_cpu(cpu, CpuClock { minor: next, left });
-        }
-        self.with_cpu(cpu, CpuClock { minor, left: 0 })
+        let minor = self.cpu_at(cpu).minor;
+        let count = frame_count(rows, self.major, cpu);
+        let c = match minor.checked_add(1) {
+            Some(next) if next < count => CpuClock {
+                minor: next,
+                left: frame_at(rows, self.major, cpu, next).length,
+            },
+            _ => CpuClock { minor, left: 0 },
+        };
+        self.with_cpu(cpu, c)
     }
 
     // The next major becomes current.
     fn opened(self, rows: &[u64]) -> Clock
         ensures { result ≡ opened rows.now self }
     {
-        let major = self.next;
-        let cpus = firsts(rows, major);
         let last = self.now;
         Clock {
-            major,
-            next: major,
-            cpus,
-            now: [0u16; 8],
+            major: self.next,
+            cpus: firsts(rows, self.next),
+            now: [0; PARTITIONS],
             last,
+            ..self
         }
     }
 
-    // Whether the first CPUs, so many of them, have finished the major frame.
-    fn finished_below(self, count: u8) -> bool
-        ensures { result ≡ all_below count (finished self) }
+    // Whether every CPU has finished the major frame.
+    fn all_finished(self, rows: &[u64]) -> bool
+        ensures { result ≡ all_finished rows.now self }
     {
-        let mut cpu: u8 = 0;
-        while cpu < count {
-            if !self.finished(cpu) {
-                return false;
-            }
-            cpu += 1;
-        }
-        true
+        (0..counts_of(rows).cpus).all(|cpu| self.finished(cpu))
     }
 
     // Where all wait, a major frame opens.
     fn settled(self, rows: &[u64]) -> Ticked
         ensures { result ≡ settled rows.now self }
     {
-        let counts = counts_of(rows);
-        if self.finished_below(counts.cpus) {
-            let clock = self.opened(rows);
+        if self.all_finished(rows) {
             return Ticked {
-                clock,
+                clock: self.opened(rows),
                 what: Tick::Opened,
             };
         }
@@ -135,31 +112,29 @@ impl Clock {
             };
         }
         let partition = self.current_partition(rows, cpu);
-        let count = self.count_now(partition);
-        if MOST_COUNT < count {
+        if MOST_COUNT < self.count_now(partition) {
             return Ticked {
                 clock: self,
                 what: Tick::Refused,
             };
         }
-        let left = self.ticks_left(cpu);
-        let after = self.charged(partition);
-        if 1 < left {
-            let clock = after.less_left(cpu);
+        let charged = self.charged(partition);
+        if 1 < self.ticks_left(cpu) {
             return Ticked {
-                clock,
+                clock: charged.less_left(cpu),
                 what: Tick::GoOn,
             };
         }
-        let over = after.moved(rows, cpu);
-        over.settled(rows)
+        charged.moved(rows, cpu).settled(rows)
     }
 
     // The next major, for every opening until another is chosen.
-    pub fn choose(mut self, major: u8) -> Clock
+    pub fn choose(self, major: u8) -> Clock
         ensures { result ≡ chosen self major }
     {
-        self.next = major;
-        self
+        Clock {
+            next: major,
+            ..self
+        }
     }
 }

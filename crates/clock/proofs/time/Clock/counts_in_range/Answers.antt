@@ -1,17 +1,9 @@
--- `counts_in_range` meets its contract: before each turn, the counts so far are in range.
-use mathlib.Core.Path.{sym, ◌∙◌}
-use native.Mathlib.Omega.{arith}
-use Rattle.rules.proofs.Below.{below_none, below_more, below_stop, below_end}
+-- `counts_in_range` meets its contract: the partitions are asked one after the other.
+use borrow.Author.Rules.{rules}
+use borrow.Author.Tests.{tests}
+use Rattle.clock.specs.Time.{count_in_range}
+use Rattle.rules.proofs.Below.{ranged_all}
 use Rattle.clock.proofs.time.Clock.counts_in_range.Goals as goal
 
-pub loop-partition-init : goal.loop-partition-init
-loop-partition-init c = (omega arith, below_none _)
-
-pub returns-then-not-count_in_range : goal.returns-then-not-count_in_range
-returns-then-not-count_in_range c = sym (below_stop _ _ c.loop-partition.partition (omega arith) (sym c.count_in_range.ensures ∙ c.if-not-count_in_range.true))
-
-pub loop-partition-preserved : goal.loop-partition-preserved
-loop-partition-preserved c = (omega arith, below_more _ _ c.loop-partition.invariant.1 (sym c.count_in_range.ensures ∙ c.if-not-count_in_range.false))
-
 pub returns : goal.returns
-returns c = below_end _ _ c.loop-partition.partition (omega arith) c.loop-partition.invariant.1
+returns c = ranged_all _ (count_in_range c.args.self) c.all.ensures.ran (search rules) (λ x b q k. search (rules, tests))
