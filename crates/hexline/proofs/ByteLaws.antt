@@ -10,6 +10,7 @@ use lib.Dec.{eqb}
 use lib.ListN.{length, get_or, take, drop, get_or-eq_default}
 use lib.Seq.{length-take-le}
 use borrow.Author.Tests.{eqb-true, eqb-false, ne_eqb, not-true}
+use Rattle.std.specs.Int.{w16, to_be_bytes, from_be_bytes}
 use Rattle.hexline.specs.Digits.{newline, digit_of, is_digit}
 use Rattle.hexline.specs.Lines.{line_length, all_digits, well_formed, line_of, byte_of, spelled, byte_at, number_at}
 use Rattle.hexline.specs.Writes.{pair_of, pairs_of, number_text, line_text}
@@ -154,6 +155,14 @@ unfolding Read
 whole text n end e = rw e at (is_read text)
 
 -- ---- two-byte numbers
+
+-- as `to_be_bytes` gives them
+pub high_low : (number : ℕ) → number < 65536 → to_be_bytes w16 number ≡ number / 256 ∷ number % 256 ∷ []
+high_low number h = ap (λ (high : ℕ). high ∷ number % 256 ∷ []) (omega arith)
+
+-- as `from_be_bytes` takes them
+pub from_high_low : (high low : ℕ) → from_be_bytes w16 (high ∷ low ∷ []) ≡ high * 256 + low
+from_high_low high low = refl
 
 pub number_bytes : (number : ℕ) → number < 65536 → spelled (number_text number) ≡ number / 256 ∷ number % 256 ∷ []
 unfolding spelled number_text pairs_of pair_of

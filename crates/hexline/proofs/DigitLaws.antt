@@ -1,15 +1,17 @@
 -- A digit and its value are each other's inverse; a byte and its two digits too. By the two ranges, 0-9 and A-F.
 use Prim.Native.Nat.{ℕ, ◌+◌, ◌-◌, ◌*◌, ◌/◌, ◌%◌, ◌≤◌, ◌<◌}
-use mathlib.Core.Bool.{true, false, not, ◌&&◌, ◌||◌}
+use mathlib.Core.Bool.{true, false, ◌&&◌}
 use mathlib.Core.List.{[], ◌∷◌, map}
-use mathlib.Core.Path.{◌≡◌, refl, ap, ◌∙◌}
+use mathlib.Core.Path.{◌≡◌, refl, sym, ◌∙◌}
 use native.Mathlib.Omega.{arith}
-use lib.Dec.{ltb, leb, eqb}
-use borrow.Author.Tests.{ltb-true, ltb-false, leb-true, eqb-false, eq-eqb, ne_eqb, lt-ltb, le-ltb, le-leb, lt-leb, not-true}
-use Rattle.hexline.specs.Digits.{digit_zero, digit_nine, letter_a, letter_f, no_digit, digit_of, hex_of, is_digit}
+use lib.Dec.{ltb, leb}
+use borrow.Author.Tests.{ltb-true, ltb-false, leb-true, eqb-false, ne_eqb, lt-ltb, le-ltb, le-leb, lt-leb, not-true}
+use Rattle.std.specs.Prelude.{Option, Some}
+use Rattle.std.specs.Option.{is_some}
+use Rattle.hexline.specs.Digits.{digit_zero, digit_nine, letter_a, letter_f, no_digit, digit_of, hex_of, is_digit, digit_in}
 use Rattle.hexline.specs.Lines.{byte_of}
 use Rattle.hexline.specs.Writes.{pair_of}
-use Rattle.hexline.proofs.Cond.{by_cond, both, neither}
+use Rattle.hexline.proofs.Cond.{by_cond, both}
 
 pub digit_le : (b : ℕ) → digit_of b ≤ no_digit
 unfolding digit_of
@@ -31,9 +33,16 @@ pub value_digit : (b : ℕ) → (digit_of b ≡ 16 → ⊥) → is_digit b ≡ t
 unfolding is_digit
 value_digit b h = rw (ne_eqb (digit_of b) 16 h)
 
-pub no_digit_lem : (b : ℕ) → digit_of b ≡ 16 → is_digit b ≡ false
-unfolding is_digit
-no_digit_lem b e = rw (eq-eqb (digit_of b) 16 e)
+-- what the code's answer says of a byte: whether it is a digit, and the digit's value
+pub digit_some : (b : ℕ) → is_some (digit_in b) ≡ is_digit b
+unfolding digit_in
+digit_some b = by_cond (λ (d : Option ℕ). is_some d ≡ is_digit b) (is_digit b) _ _ (λ e. sym e) (λ e. sym e)
+
+pub value_in : (b value : ℕ) → digit_in b ≡ Some value → (is_digit b ≡ true) × ((digit_of b ≡ value) × (value < 16))
+unfolding digit_in
+value_in b value =
+    by_cond (λ (d : Option ℕ). d ≡ Some value → (is_digit b ≡ true) × ((digit_of b ≡ value) × (value < 16))) (is_digit b) _ _
+    (λ t e. let v : digit_of b ≡ value = cc in (t, (v, omega (arith, digit_value b t)))) (λ t e. absurd (cc))
 
 pub digit_hex : (value : ℕ) → value < 16 → digit_of (hex_of value) ≡ value
 unfolding digit_of hex_of
@@ -89,18 +98,6 @@ byte_digits high low p q = rw (p, q)
 pub byte_none : (high low : ℕ) → (is_digit high && is_digit low) ≡ false → byte_of high low ≡ 0
 unfolding byte_of
 byte_none high low e = rw e
-
--- by the code's test, that one of the two is no digit
-pub byte_refused : (high low : ℕ) → (eqb (digit_of high) 16 || eqb (digit_of low) 16) ≡ true → byte_of high low ≡ 0
-unfolding is_digit
-byte_refused high low e = byte_none high low (neither (eqb (digit_of high) 16) (eqb (digit_of low) 16) ∙ ap not e)
-
-pub byte_taken : (high low : ℕ) → (eqb (digit_of high) 16 || eqb (digit_of low) 16) ≡ false
-    → (digit_of high < 16) × ((digit_of low < 16) × (byte_of high low ≡ digit_of high * 16 + digit_of low))
-unfolding is_digit
-byte_taken high low e =
-    let t = both (is_digit high) (is_digit low) (neither (eqb (digit_of high) 16) (eqb (digit_of low) 16) ∙ ap not e) in
-    (digit_value high t.0, (digit_value low t.1, byte_digits high low t.0 t.1))
 
 pub byte_small : (high low : ℕ) → byte_of high low < 256
 unfolding byte_of

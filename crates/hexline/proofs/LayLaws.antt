@@ -1,7 +1,7 @@
 -- A text laid over a buffer at a place: what a writer that goes from the front to the back has done so far. `Laid` is kept by
 -- each write (`laid_more`), and at the end it is what the writer's contract says (`laid_is`, `laid_after`).
-use Prim.Native.Nat.{ℕ, suc, ◌+◌, ◌-◌, ◌*◌, ◌≤◌, ◌<◌}
-use mathlib.Core.Bool.{Bool, true, false, not}
+use Prim.Native.Nat.{ℕ, suc, ◌+◌, ◌*◌, ◌≤◌, ◌<◌}
+use mathlib.Core.Bool.{Bool, false}
 use mathlib.Core.List.{List, [], ◌∷◌, ◌++◌, append_assoc, append-nil}
 use mathlib.Core.Path.{◌≡◌, refl, ap, sym, ◌∙◌}
 use native.Mathlib.Omega.{arith}
@@ -10,9 +10,10 @@ use native.Mathlib.Numerals.{add-one}
 use lib.Dec.{leb}
 use lib.ListN.{length, get_or, take, drop, set, get_or-append, length-append, length-drop, take-append-drop}
 use lib.Seq.{length-take-le, set_split, take_at, take-suc, drop-append-add, drop-drop, get_or-append-add, get_or-take, get_or-drop}
-use borrow.Author.Tests.{le-leb, lt-leb, leb-true, leb-false, not-true, not-false}
-use Rattle.hexline.proofs.Cond.{by_cond, same_test}
-use Rattle.hexline.specs.Writes.{pair_of, pairs_of, fits_at, lay, after}
+use borrow.Author.Tests.{le-leb, lt-leb, leb-true, leb-false}
+use Rattle.std.proofs.lemmas.Bool.Decides.{nat_tests}
+use Rattle.hexline.proofs.Cond.{by_cond}
+use Rattle.hexline.specs.Writes.{pair_of, pairs_of, fits_at, lay, after, Put}
 
 -- what laying comes to where there is room
 abbrev over : List ℕ → ℕ → List ℕ → List ℕ
@@ -35,6 +36,12 @@ module _ (out : List ℕ) (at : ℕ) (text : List ℕ) where
   pub after_none : length out < at + length text → after out at text ≡ at
   unfolding after fits_at
   after_none h = rw (lt-leb (at + length text) (length out) h)
+
+  -- by the code's test for room
+  pub put_none : (room : Bool) → room ≡ leb (at + length text) (length out) → room ≡ false → Put out at text at out
+  put_none room e t =
+      let h : length out < at + length text = leb-false _ _ (sym e ∙ t) in
+      (sym (after_none h), sym (lay_none h))
 
 module _ (out : List ℕ) (at : ℕ) (text : List ℕ) (h : at + length text ≤ length out) where
   front_length : length (take at out ++ text) ≡ at + length text
@@ -97,18 +104,6 @@ lay_past out text at k =
     ∙ get_or-drop (at + length text) out k 0))
     refl
 
--- the code's test for room
-pub room_left : (size at needed : ℕ) → at ≤ size → leb needed (size - at) ≡ leb (at + needed) size
-room_left size at needed h =
-    same_test (leb needed (size - at)) (leb (at + needed) size) (λ e. le-leb (at + needed) size (omega (arith, leb-true needed (size - at) e)))
-    (λ e. le-leb needed (size - at) (omega (arith, leb-true (at + needed) size e)))
-
-pub room_yes : (size at needed : ℕ) (r : Bool) → r ≡ leb (at + needed) size → not r ≡ false → at + needed ≤ size
-room_yes size at needed r e f = leb-true _ _ (sym e ∙ not-false r f)
-
-pub room_no : (size at needed : ℕ) (r : Bool) → r ≡ leb (at + needed) size → not r ≡ true → size < at + needed
-room_no size at needed r e f = leb-false _ _ (sym e ∙ not-true r f)
-
 -- what a writer has done: the text stands in the buffer from a place on, and ends at another
 pub record Laid (out₀ : List ℕ) (at : ℕ) (text out : List ℕ) (end : ℕ) : Type 0 where
   pub now : out ≡ over out₀ at text
@@ -148,6 +143,19 @@ module _ {out₀ : List ℕ} {at : ℕ} {text out : List ℕ} {end : ℕ} (l : L
 
   pub laid_after : end ≡ after out₀ at text
   laid_after = l.ends ∙ sym (after_over out₀ at text l.room)
+
+  pub laid_put : Put out₀ at text end out
+  laid_put = (laid_after, laid_is)
+
+-- one byte stored, and two
+pub lay_one : (out : List ℕ) (at v : ℕ) → at + 1 ≤ length out → lay out at (v ∷ []) ≡ set out at v
+lay_one out at v h = sym (laid_is (laid_one (laid_none out at (omega arith)) v (omega arith)))
+
+pub lay_two : (out : List ℕ) (at v w : ℕ) → at + 2 ≤ length out → lay out at (v ∷ w ∷ []) ≡ set (set out at v) (at + 1) w
+lay_two out at v w h = sym (laid_is (laid_one (laid_one (laid_none out at (omega arith)) v (omega arith)) w (omega arith)))
+
+-- by which the check finds that `put_byte` and `put_newline` meet theirs
+pub ruleset stores = (lay_none, after_none, after_over, lay_one, lay_two, nat_tests)
 
 -- ---- the digits of bytes, one byte more
 

@@ -6,10 +6,15 @@ use mathlib.Core.Logic.{◌↔◌}
 use mathlib.Core.List.{List, [], ◌∷◌, ◌++◌}
 use mathlib.Core.Path.{◌≡◌, refl, ap, sym, ◌∙◌}
 use native.Mathlib.Omega.{arith}
-use lib.Dec.{eqb}
-use lib.ListN.{length, get_or, take, drop, length-append, drop_of_length-le}
+use native.Mathlib.Numerals.{add-one}
+use lib.Dec.{ltb, eqb}
+use lib.ListN.{length, get_or, take, drop, length-append, length-drop}
 use lib.Seq.{take-append-le, length-take-le, drop-cons}
-use borrow.Author.Tests.{eqb-true, eqb-false, eq-eqb, ne_eqb}
+use borrow.Author.Tests.{ltb-true, ltb-false, eqb-true, eqb-false, eq-eqb, ne_eqb}
+use Rattle.std.specs.Prelude.{Option, Some, None}
+use Rattle.std.specs.List.{position}
+use Rattle.std.proofs.lemmas.Bool.Decides.{nat_tests}
+use Rattle.std.proofs.lemmas.List.Recursion.{is_position_or_len}
 use Rattle.hexline.specs.Digits.{newline}
 use Rattle.hexline.specs.Lines.{line_length, all_digits, well_formed, ended_at, line_of}
 use Rattle.hexline.specs.Run.{run_of}
@@ -62,27 +67,46 @@ unfolding line_length
 line_whole_text [] f = refl
 line_whole_text (b ∷ text) f = rw (ne_eqb b newline (f 0)) (ap suc (line_whole_text text (λ k. f (suc k))))
 
--- ---- the reader's search for a newline, by what is left at i
+-- ---- the reader's search for a newline, in what is left behind the digits
 
-pub search_stop : (text : List ℕ) (i : ℕ) → i < length text → get_or text i 0 ≡ newline → line_length (drop i text) ≡ 0
+search_stop : (text : List ℕ) (i : ℕ) → i < length text → get_or text i 0 ≡ newline → line_length (drop i text) ≡ 0
 unfolding line_length
 search_stop text i h e = rw (drop-cons text i 0 h, eq-eqb _ _ e)
 
-pub search_more : (text : List ℕ) (i : ℕ) → i < length text → (get_or text i 0 ≡ newline → ⊥) → line_length (drop i text) ≡ suc (line_length (drop (suc i) text))
+search_more : (text : List ℕ) (i : ℕ) → i < length text → (get_or text i 0 ≡ newline → ⊥) → line_length (drop i text) ≡ suc (line_length (drop (suc i) text))
 unfolding line_length
 search_more text i h e = rw (drop-cons text i 0 h, ne_eqb _ _ e)
 
-pub search_end : (text : List ℕ) (i : ℕ) → length text ≤ i → line_length (drop i text) ≡ 0
+-- what the search answers
+searched : (text : List ℕ) → position (λ b. eqb b newline) text ≡ cond (ltb (line_length text) (length text)) (Some (line_length text)) None
 unfolding line_length
-search_end text i h = rw (drop_of_length-le text h)
+searched text =
+    rw (is_position_or_len line_length (λ b. eqb b newline) refl (λ b more. ap (λ (n : ℕ). cond (eqb b newline) 0 n) (omega arith)) text)
 
-pub ended_here : (text : List ℕ) (n : ℕ) → n < length text → ended_at text n ≡ IllFormed (suc n)
+ended_short : (text : List ℕ) (n : ℕ) → n < length text → ended_at text n ≡ IllFormed (suc n)
 unfolding ended_at
-ended_here text n h = rw (ne_eqb n (length text) (λ e. omega arith))
+ended_short text n h = rw (ne_eqb n (length text) (λ e. omega arith))
 
-pub ended_never : (text : List ℕ) (n : ℕ) → n ≡ length text → ended_at text n ≡ Unended
+ended_whole : (text : List ℕ) (n : ℕ) → n ≡ length text → ended_at text n ≡ Unended
 unfolding ended_at
-ended_never text n e = rw (eq-eqb n (length text) e)
+ended_whole text n e = rw (eq-eqb n (length text) e)
+
+module _ (text : List ℕ) (from : ℕ) (h : from ≤ length text) where
+  pub ended_here : (ahead : ℕ) → position (λ b. eqb b newline) (drop from text) ≡ Some ahead → IllFormed (from + ahead + 1) ≡ ended_at text (from + line_length (drop from text))
+  ended_here ahead e =
+      by_cond (λ (found : Option ℕ). found ≡ Some ahead → IllFormed (from + ahead + 1) ≡ ended_at text (from + line_length (drop from text)))
+      (ltb (line_length (drop from text)) (length (drop from text))) _ _
+      (λ t q. let here : line_length (drop from text) ≡ ahead = cc in
+      let inside = ltb-true _ _ t in
+      rw (here, add-one) (sym (ended_short text (from + ahead) (omega (arith, inside, length-drop from text)))))
+      (λ t q. absurd (cc)) (sym (searched (drop from text)) ∙ e)
+
+  pub ended_never : position (λ b. eqb b newline) (drop from text) ≡ None → Unended ≡ ended_at text (from + line_length (drop from text))
+  ended_never e =
+      by_cond (λ (found : Option ℕ). found ≡ None → Unended ≡ ended_at text (from + line_length (drop from text)))
+      (ltb (line_length (drop from text)) (length (drop from text))) _ _ (λ t q. absurd (cc))
+      (λ t q. let past = ltb-false _ _ t in
+      sym (ended_whole text _ (omega (arith, past, length-drop from text, line_le (drop from text))))) (sym (searched (drop from text)) ∙ e)
 
 -- ---- the three answers
 
@@ -129,6 +153,9 @@ module _ (text : List ℕ) (n : ℕ) (run : n ≡ run_of text) where
       turned true b x y = refl
       turned false true x y = refl
       turned false false x y = refl
+
+-- by which the check finds that `read_line` meets its contract
+pub ruleset three_ways = (line_unended, line_other, line_digits, nat_tests)
 
 -- ---- what an answer tells
 

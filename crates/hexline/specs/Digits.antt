@@ -1,5 +1,5 @@
 -- "Lines of upper-case hexadecimal": the sixteen digits, 0-9 and A-F, as bytes and as values.
-use Rattle.std.specs.Prelude.{ℕ, ◌+◌, ◌-◌, Bool, cond, not, ltb, leb, eqb}
+use Rattle.std.specs.Prelude.{ℕ, ◌+◌, ◌-◌, Bool, cond, not, ltb, leb, eqb, Option, Some, None}
 
 -- what ends a line
 abbrev pub newline : ℕ
@@ -37,3 +37,7 @@ hex_of value = cond (ltb value 10) (value + digit_zero) (value - 10 + letter_a)
 -- whether a byte is a digit
 unfoldable pub is_digit : ℕ → Bool
 is_digit b = not (eqb (digit_of b) no_digit)
+
+-- a digit's value; none for another byte
+unfoldable pub digit_in : ℕ → Option ℕ
+digit_in b = cond (is_digit b) (Some (digit_of b)) None

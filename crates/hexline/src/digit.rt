@@ -1,46 +1,28 @@
 // The sixteen digits: 0-9 and A-F.
 ghost use Rattle.std.specs.Prelude.{◌≡◌, ◌<◌};
-ghost use Rattle.hexline.specs.Digits.{digit_of, hex_of};
+ghost use Rattle.hexline.specs.Digits.{digit_in, hex_of};
 
-pub const NEWLINE: u8 = 10;
-
-const DIGIT_ZERO: u8 = 48;
-
-const DIGIT_NINE: u8 = 57;
-
-const LETTER_A: u8 = 65;
-
-const LETTER_F: u8 = 70;
-
-// What `digit` gives for a byte that is no digit.
-pub const NO_DIGIT: u8 = 16;
-
-// A digit's value.
-pub(crate) fn digit(b: u8) -> u8
-    ensures { result ≡ digit_of b }
+// A digit's value; none where the byte is no digit.
+#[tactic(auto, using(std::proofs::lemmas::Bool::Decides::nat_tests), unfolding(crate::specs::Digits::digit_in, crate::specs::Digits::is_digit, crate::specs::Digits::digit_of))]
+pub(crate) fn digit(b: u8) -> Option<u8>
+    ensures { result ≡ digit_in b }
 {
-    if b < DIGIT_ZERO {
-        return NO_DIGIT;
+    match b {
+        b'0'..=b'9' => Some(b - b'0'),
+        b'A'..=b'F' => Some(b - b'A' + 10),
+        _ => None,
     }
-    if b <= DIGIT_NINE {
-        return b - DIGIT_ZERO;
-    }
-    if b < LETTER_A {
-        return NO_DIGIT;
-    }
-    if b <= LETTER_F {
-        return b - LETTER_A + 10;
-    }
-    NO_DIGIT
 }
 
 // A value's digit.
+#[tactic(auto, using(std::proofs::lemmas::Bool::Decides::nat_tests), unfolding(crate::specs::Digits::hex_of))]
 pub(crate) fn hex(value: u8) -> u8
     requires { value < 16 }
     ensures { result ≡ hex_of value }
 {
     if value < 10 {
-        return value + DIGIT_ZERO;
+        value + b'0'
+    } else {
+        value - 10 + b'A'
     }
-    value - 10 + LETTER_A
 }

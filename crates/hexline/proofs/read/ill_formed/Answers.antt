@@ -1,29 +1,18 @@
--- `ill_formed` meets its contract. The loop's invariant: the line's length is what was passed and that of what is left.
+-- `ill_formed` meets its contract: the newline is sought in what is left.
 use native.Mathlib.Omega.{arith}
-use Prim.Native.Nat.{◌+◌, suc}
-use mathlib.Core.Path.{◌≡◌, sym}
-use native.Mathlib.Numerals.{add-one}
-use lib.ListN.{drop}
-use Rattle.hexline.specs.Lines.{line_length}
-use Rattle.hexline.proofs.LineLaws.{search_stop, search_more, search_end, ended_here, ended_never}
+use Prim.Native.Nat.{ℕ, ◌-◌}
+use mathlib.Core.List.{List}
+use mathlib.Core.Path.{◌≡◌, sym, ◌∙◌}
+use lib.ListN.{length, take, drop, length-drop}
+use lib.Seq.{take_all}
+use Rattle.hexline.proofs.LineLaws.{ended_here, ended_never}
 use Rattle.hexline.proofs.read.ill_formed.Goals as goal
 
-pub returns-then-text-i-eq-NEWLINE : goal.returns-then-text-i-eq-NEWLINE
-returns-then-text-i-eq-NEWLINE c =
-    let text = c.args.text.now in
-    let i = c.loop-i.i in
-    let here : c.args.from + line_length (drop c.args.from text) ≡ i = omega (arith, search_stop text i (omega arith) c.if-text-i-eq-NEWLINE.true) in
-    rw (here, ended_here text i (omega arith), add-one)
+left : (text : List ℕ) (from : ℕ) → take (length text - from) (drop from text) ≡ drop from text
+left text from = take_all _ (drop from text) (omega (arith, length-drop from text))
 
-pub loop-i-preserved : goal.loop-i-preserved
-loop-i-preserved c =
-    let text = c.args.text.now in
-    let i = c.loop-i.i in
-    let more : line_length (drop i text) ≡ suc (line_length (drop (i + 1) text)) = rw add-one (search_more text i (omega arith) c.if-text-i-eq-NEWLINE.false) in
-    omega arith
+pub returns-in-Some : goal.returns-in-Some
+returns-in-Some c = ended_here _ _ c.requires _ (rw left at (sym c.to_newline.ensures ∙ c.in-Some.is))
 
-pub returns : goal.returns
-returns c =
-    let text = c.args.text.now in
-    let i = c.loop-i.i in
-    sym (ended_never text _ (omega (arith, search_end text i c.loop-i-test.false)))
+pub returns-in-None : goal.returns-in-None
+returns-in-None c = ended_never _ _ c.requires (rw left at (sym c.to_newline.ensures ∙ c.in-None.is))

@@ -1,25 +1,17 @@
--- `run` meets its contract. The loop's invariant: the run is what was passed and the run of what is left.
-use native.Mathlib.Omega.{arith}
-use Prim.Native.Nat.{◌+◌, suc}
-use mathlib.Core.Path.{◌≡◌, sym, ◌∙◌}
-use native.Mathlib.Numerals.{add-one}
-use lib.ListN.{drop}
-use Rattle.hexline.specs.Run.{run_of}
-use Rattle.hexline.proofs.RunLaws.{run_stop, run_more, run_end}
+-- `run` meets its contract: what the chain counts is the digits that the text begins with.
+use mathlib.Core.Path.{◌∙◌}
+use borrow.Author.Tests.{tests}
+use Rattle.std.proofs.Common.{rules}
+use Rattle.std.proofs.lemmas.Iterator.{YieldsList-from_slice}
+use Rattle.std.proofs.lemmas.Iterator.Consumers.{count_from_yields_List}
+use Rattle.std.proofs.lemmas.Iterator.Search.{YieldsList-from_take_while}
+use Rattle.std.proofs.lemmas.List.Folds.{length-prefix_len}
+use Rattle.hexline.specs.Digits.{is_digit}
+use Rattle.hexline.proofs.DigitLaws.{digit_some}
 use Rattle.hexline.proofs.read.run.Goals as goal
 
-pub returns-then-digit-eq-NO_DIGIT : goal.returns-then-digit-eq-NO_DIGIT
-returns-then-digit-eq-NO_DIGIT c =
-    let text = c.args.text.now in
-    let i = c.loop-i.i in
-    omega (arith, run_stop text i (omega arith) (sym c.digit.ensures ∙ c.if-digit-eq-NO_DIGIT.true))
-
-pub loop-i-preserved : goal.loop-i-preserved
-loop-i-preserved c =
-    let text = c.args.text.now in
-    let i = c.loop-i.i in
-    let more : run_of (drop i text) ≡ suc (run_of (drop (i + 1) text)) = rw add-one (run_more text i (omega arith) (λ e. c.if-digit-eq-NO_DIGIT.false (c.digit.ensures ∙ e))) in
-    omega arith
-
 pub returns : goal.returns
-returns c = omega (arith, run_end c.args.text.now c.loop-i.i c.loop-i-test.false)
+returns c =
+    count_from_yields_List c.take_while.result _ c.count.ensures.ran
+    (YieldsList-from_take_while _ is_digit (YieldsList-from_slice c.args.text.now cc) c.take_while.ensures.closure c.take_while.ensures.done (λ x b q k. search (rules, tests, digit_some)))
+    ∙ length-prefix_len is_digit c.args.text.now

@@ -1,61 +1,50 @@
 -- `put_line` meets its contract. The loop's invariant: the digits of the bytes passed are laid.
 use native.Mathlib.Omega.{arith}
-use mathlib.Core.Path.{◌≡◌, refl, sym, ap, ◌∙◌}
+use mathlib.Core.Path.{◌≡◌, sym, ap, ◌∙◌}
 use mathlib.Core.List.{List, ◌∷◌, []}
-use Rattle.hexline.specs.Digits.{newline}
 use native.Mathlib.Numerals.{add-one}
-use Prim.Native.Nat.{ℕ, ◌+◌, ◌*◌, ◌≤◌, ◌<◌}
+use Prim.Native.Nat.{ℕ, ◌+◌, ◌*◌, ◌≤◌}
+use borrow.Author.Tests.{leb-true}
 use lib.ListN.{length, get_or, take}
 use lib.Seq.{take_all, length-take-le}
-use Rattle.hexline.proofs.ByteLaws.{text_length}
+use Rattle.hexline.specs.Digits.{newline}
 use Rattle.hexline.specs.Writes.{pair_of, pairs_of, line_text}
-use Rattle.hexline.proofs.LayLaws.{Laid, laid_none, laid_more, laid_length, laid_is, laid_after, lay_none, after_none, pairs_length, pairs_more}
-use Rattle.hexline.proofs.write.put_line.Goals.{After-slice_known-2-1}
+use Rattle.hexline.proofs.ByteLaws.{text_length}
+use Rattle.hexline.proofs.LayLaws.{laid_none, laid_more, laid_put, put_none, pairs_length, pairs_more}
 use Rattle.hexline.proofs.write.put_line.Goals as goal
 
 -- the digits of the bytes passed
 passed : (bytes : List ℕ) (i : ℕ) → i ≤ length bytes → length (pairs_of (take i bytes)) ≡ 2 * i
 passed bytes i h = pairs_length (take i bytes) ∙ ap (λ (n : ℕ). 2 * n) (length-take-le i bytes h)
 
-pub returns-then-size-at : goal.returns-then-size-at
-returns-then-size-at c =
-    let a = c.args in
-    let h : length a.out.now < a.at + length (line_text a.bytes.now) = omega (arith, text_length a.bytes.now) in
-    (sym (after_none _ _ _ h), sym (lay_none _ _ _ h))
+pub returns-then-not-room : goal.returns-then-not-room
+returns-then-not-room c =
+    let bytes = c.args.bytes.now in
+    let needed : length (line_text bytes) ≡ 2 * length bytes + 1 = omega (arith, text_length bytes) in
+    put_none _ _ (line_text bytes) _ (rw needed c.room.ensures) c.if-not-room.true
 
-pub returns-then-size-at-2 : goal.returns-then-size-at-2
-returns-then-size-at-2 c =
-    let a = c.args in
-    let h : length a.out.now < a.at + length (line_text a.bytes.now) = omega (arith, text_length a.bytes.now) in
-    (sym (after_none _ _ _ h), sym (lay_none _ _ _ h))
-
-pub loop-i-init : goal.loop-i-init
+pub loop-byte-init : goal.loop-byte-init
 unfolding pairs_of
-loop-i-init c = (omega arith, laid_none _ _ (omega arith))
+loop-byte-init c = laid_none _ _ (omega (arith, leb-true _ _ (sym c.room.ensures ∙ c.if-not-room.false)))
 
-pub loop-i-preserved : goal.loop-i-preserved
+pub loop-byte-preserved : goal.loop-byte-preserved
 unfolding pair_of
-loop-i-preserved c =
-    let a = c.args in
-    let i = c.loop-i.i in
-    let l = c.loop-i.invariant.1 in
-    let q = c.put_byte-next in
-    let m = laid_more l (pair_of (get_or a.bytes.now i 0)) q.new.out q.result (omega (arith, l.ends, passed a.bytes.now i (omega arith))) q.ensures.0 q.ensures.1 in
-    (omega arith, rw (add-one, pairs_more a.bytes.now i (omega arith)) m)
-
--- what has been written where the function ends
-laid : (c : After-slice_known-2-1) → Laid c.args.out.now c.args.at (line_text c.args.bytes.now) c.put_newline.new.out c.put_newline.result
-unfolding line_text
-laid c =
-    let a = c.args in
-    let i = c.loop-i.i in
-    let e : i ≡ length a.bytes.now = omega arith in
-    let l = rw (take_all i a.bytes.now (omega arith)) at c.loop-i.invariant.1 in
-    let q = c.put_newline in
-    laid_more l (newline ∷ []) q.new.out q.result (omega (arith, l.ends, pairs_length a.bytes.now)) q.ensures.0 q.ensures.1
-
-pub shape_of-out : goal.shape_of-out
-shape_of-out c = laid_length (laid c)
+loop-byte-preserved c =
+    let bytes = c.args.bytes.now in
+    let i = c.loop-byte.byte-index in
+    let l = c.loop-byte.invariant in
+    let roomy = leb-true _ _ (sym c.room.ensures ∙ c.if-not-room.false) in
+    let q = c.put_byte-place in
+    let m = laid_more l (pair_of (get_or bytes i 0)) q.new.out q.result (omega (arith, roomy, l.ends, passed bytes i (omega arith))) q.ensures.0 q.ensures.1 in
+    rw (add-one, pairs_more bytes i (omega arith)) m
 
 pub returns : goal.returns
-returns c = (laid_after (laid c), laid_is (laid c))
+unfolding line_text
+returns c =
+    let bytes = c.args.bytes.now in
+    let i = c.loop-byte.byte-index in
+    let e : i ≡ length bytes = omega arith in
+    let l = rw (take_all i bytes (omega arith)) at c.loop-byte.invariant in
+    let roomy = leb-true _ _ (sym c.room.ensures ∙ c.if-not-room.false) in
+    let q = c.put_newline in
+    laid_put (laid_more l (newline ∷ []) q.new.out q.result (omega (arith, roomy, l.ends, pairs_length bytes)) q.ensures.0 q.ensures.1)
