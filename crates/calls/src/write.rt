@@ -1,6 +1,6 @@
 // An answer's seven bytes, and its line into a lent buffer at a place. Where there is no room the buffer stays as it was.
 ghost use Rattle.std.specs.Prelude.{◌≡◌};
-ghost use Rattle.hexline.specs.Writes.{line_text, lay, after};
+ghost use Rattle.hexline.specs.Writes.{line_text, put};
 ghost use Rattle.calls.specs.Answers.{vector_of, kick_of, bits_of, bytes_of};
 
 use crate::answer::Answer;
@@ -118,7 +118,7 @@ pub fn answer_bytes(answer: Answer) -> [u8; 7]
 
 // An answer's line, all of it or nothing; the place after it.
 pub fn put_answer(out: &mut [u8], at: usize, answer: Answer) -> usize
-    ensures { (result ≡ after out.old at (line_text (bytes_of answer))) × (out.new ≡ lay out.old at (line_text (bytes_of answer))) }
+    ensures { (result, out.new) ≡ put out.old at (line_text (bytes_of answer)) }
 {
     let bytes = answer_bytes(answer);
     put_line(out, at, &bytes)

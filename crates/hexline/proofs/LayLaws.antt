@@ -3,7 +3,7 @@
 use Prim.Native.Nat.{ℕ, suc, ◌+◌, ◌*◌, ◌≤◌, ◌<◌}
 use mathlib.Core.Bool.{Bool, false}
 use mathlib.Core.List.{List, [], ◌∷◌, ◌++◌, append_assoc, append-nil}
-use mathlib.Core.Path.{◌≡◌, refl, ap, sym, ◌∙◌}
+use mathlib.Core.Path.{◌≡◌, refl, ap, ap₂, sym, ◌∙◌}
 use native.Mathlib.Omega.{arith}
 use native.Mathlib.Nat.{add-zero}
 use native.Mathlib.Numerals.{add-one}
@@ -13,7 +13,17 @@ use lib.Seq.{length-take-le, set_split, take_at, take-suc, drop-append-add, drop
 use borrow.Author.Tests.{le-leb, lt-leb, leb-true, leb-false}
 use Rattle.std.proofs.lemmas.Bool.Decides.{nat_tests}
 use Rattle.hexline.proofs.Cond.{by_cond}
-use Rattle.hexline.specs.Writes.{pair_of, pairs_of, fits_at, lay, after, Put}
+use Rattle.hexline.specs.Writes.{pair_of, pairs_of, fits_at, lay, after, put}
+
+-- the place and the buffer after a text was put, together and each
+pub pair : {m n : ℕ} {o p : List ℕ} → m ≡ n → o ≡ p → ◌≡◌ {A = ℕ × List ℕ} (m, o) (n, p)
+pair e f = ap₂ (λ (m : ℕ) (o : List ℕ). (m, o)) e f
+
+pub put_place : {m n : ℕ} {o p : List ℕ} → ◌≡◌ {A = ℕ × List ℕ} (m, o) (n, p) → m ≡ n
+put_place e = ap (λ (x : ℕ × List ℕ). x.0) e
+
+pub put_buffer : {m n : ℕ} {o p : List ℕ} → ◌≡◌ {A = ℕ × List ℕ} (m, o) (n, p) → o ≡ p
+put_buffer e = ap (λ (x : ℕ × List ℕ). x.1) e
 
 -- what laying comes to where there is room
 abbrev over : List ℕ → ℕ → List ℕ → List ℕ
@@ -38,10 +48,10 @@ module _ (out : List ℕ) (at : ℕ) (text : List ℕ) where
   after_none h = rw (lt-leb (at + length text) (length out) h)
 
   -- by the code's test for room
-  pub put_none : (room : Bool) → room ≡ leb (at + length text) (length out) → room ≡ false → Put out at text at out
+  pub put_none : (room : Bool) → room ≡ leb (at + length text) (length out) → room ≡ false → (at, out) ≡ put out at text
   put_none room e t =
       let h : length out < at + length text = leb-false _ _ (sym e ∙ t) in
-      (sym (after_none h), sym (lay_none h))
+      pair (sym (after_none h)) (sym (lay_none h))
 
 module _ (out : List ℕ) (at : ℕ) (text : List ℕ) (h : at + length text ≤ length out) where
   front_length : length (take at out ++ text) ≡ at + length text
@@ -144,8 +154,8 @@ module _ {out₀ : List ℕ} {at : ℕ} {text out : List ℕ} {end : ℕ} (l : L
   pub laid_after : end ≡ after out₀ at text
   laid_after = l.ends ∙ sym (after_over out₀ at text l.room)
 
-  pub laid_put : Put out₀ at text end out
-  laid_put = (laid_after, laid_is)
+  pub laid_put : (end, out) ≡ put out₀ at text
+  laid_put = pair laid_after laid_is
 
 -- one byte stored, and two
 pub lay_one : (out : List ℕ) (at v : ℕ) → at + 1 ≤ length out → lay out at (v ∷ []) ≡ set out at v

@@ -1,6 +1,6 @@
 -- What is written: a byte's two digits, a two-byte number's four, a line of bytes with its newline; and a buffer with such a
 -- text laid over it at a place. Where there is no room the buffer stays as it was, every byte.
-use Rattle.std.specs.Prelude.{ℕ, ◌≡◌, ◌+◌, ◌/◌, ◌%◌, Bool, cond, List, [], ◌∷◌, ◌++◌, length, take, drop, leb}
+use Rattle.std.specs.Prelude.{ℕ, ◌+◌, ◌/◌, ◌%◌, Bool, cond, List, [], ◌∷◌, ◌++◌, length, take, drop, leb}
 use Rattle.hexline.specs.Digits.{newline, hex_of}
 
 -- a byte's two digits
@@ -33,5 +33,5 @@ unfoldable pub after : List ℕ → ℕ → List ℕ → ℕ
 after out at text = cond (fits_at out at text) (at + length text) at
 
 -- a text put at a place: the place after it, and the buffer then
-abbrev pub Put : List ℕ → ℕ → List ℕ → ℕ → List ℕ → Type 0
-Put out at text place new = (place ≡ after out at text) × (new ≡ lay out at text)
+abbrev pub put : List ℕ → ℕ → List ℕ → ℕ × List ℕ
+put out at text = (after out at text, lay out at text)

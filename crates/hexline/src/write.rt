@@ -1,7 +1,7 @@
 // Digits and newlines into a lent buffer at a place. Where there is no room the buffer stays as it was and the place is handed back.
 ghost use Rattle.std.specs.Prelude.{◌≡◌, ◌∷◌, [], ◌+◌, leb};
 ghost use Rattle.hexline.specs.Digits.{newline};
-ghost use Rattle.hexline.specs.Writes.{pair_of, number_text, line_text, Put};
+ghost use Rattle.hexline.specs.Writes.{pair_of, number_text, line_text, put};
 
 use crate::digit::hex;
 
@@ -15,7 +15,7 @@ fn room(size: usize, at: usize, needed: usize) -> bool
 // The two digits of a byte; the place after them.
 #[tactic(auto, using(crate::proofs::LayLaws::stores), unfolding(crate::specs::Writes::pair_of))]
 pub fn put_byte(out: &mut [u8], at: usize, byte: u8) -> usize
-    ensures { Put out.old at (pair_of byte) result out.new }
+    ensures { (result, out.new) ≡ put out.old at (pair_of byte) }
 {
     if !room(out.len(), at, 2) {
         return at;
@@ -27,7 +27,7 @@ pub fn put_byte(out: &mut [u8], at: usize, byte: u8) -> usize
 
 // The four digits of a two-byte number, high byte first; the place after them.
 pub fn put_number(out: &mut [u8], at: usize, number: u16) -> usize
-    ensures { Put out.old at (number_text number) result out.new }
+    ensures { (result, out.new) ≡ put out.old at (number_text number) }
 {
     if !room(out.len(), at, 4) {
         return at;
@@ -40,7 +40,7 @@ pub fn put_number(out: &mut [u8], at: usize, number: u16) -> usize
 // A newline; the place after it.
 #[tactic(auto, using(crate::proofs::LayLaws::stores))]
 pub fn put_newline(out: &mut [u8], at: usize) -> usize
-    ensures { Put out.old at (newline ∷ []) result out.new }
+    ensures { (result, out.new) ≡ put out.old at (newline ∷ []) }
 {
     if !room(out.len(), at, 1) {
         return at;
@@ -51,7 +51,7 @@ pub fn put_newline(out: &mut [u8], at: usize) -> usize
 
 // A line of bytes and its newline, all of it or nothing; the place after it.
 pub fn put_line(out: &mut [u8], at: usize, bytes: &[u8]) -> usize
-    ensures { Put out.old at (line_text bytes.now) result out.new }
+    ensures { (result, out.new) ≡ put out.old at (line_text bytes.now) }
 {
     if !room(out.len(), at, 2 * bytes.len() + 1) {
         return at;

@@ -11,9 +11,9 @@ use native.Mathlib.Numerals.{add-one}
 use lib.Dec.{eqb, leb}
 use lib.ListN.{length, get_or, drop, take, take-append-drop, length-append}
 use borrow.Author.Tests.{eq-eqb, ne_eqb, le-leb, lt-leb}
-use Rattle.hexline.specs.Writes.{line_text, lay, after, fits_at}
+use Rattle.hexline.specs.Writes.{line_text, lay, after, fits_at, put}
 use Rattle.hexline.proofs.Cond.{by_cond}
-use Rattle.hexline.proofs.LayLaws.{Laid, laid_none, laid_more, lay_over}
+use Rattle.hexline.proofs.LayLaws.{Laid, laid_none, laid_more, lay_over, pair}
 use Rattle.hexline.proofs.ByteLaws.{text_length}
 use Rattle.records.specs.declared.kind.Record.{Record}
 use Rattle.records.specs.declared.kind.Record.TheVariants.{End}
@@ -180,10 +180,10 @@ lay_nothing out at =
     by_cond (λ (x : List ℕ). out ≡ x) (leb (at + 0) (length out)) (take at out ++ drop (at + 0) out) out
     (λ e. let z : at + 0 ≡ at = omega arith in rw z (sym (take-append-drop at out))) (λ e. refl)
 
-pub put_none : (rows : List ℕ) (i : ℕ) (out : List ℕ) (at : ℕ) → line_at rows i ≡ [] → (at ≡ after out at (texts_of (line_at rows i))) × (out ≡ lay out at (texts_of (line_at rows i)))
+pub put_none : (rows : List ℕ) (i : ℕ) (out : List ℕ) (at : ℕ) → line_at rows i ≡ [] → (at, out) ≡ put out at (texts_of (line_at rows i))
 put_none rows i out at e =
     let t : texts_of (line_at rows i) ≡ [] = ap texts_of e ∙ texts_none in
-    rw t (after_nothing out at, lay_nothing out at)
+    rw t (pair (after_nothing out at) (lay_nothing out at))
 
 -- a place more takes no byte away
 below_less : (rows : List ℕ) (i k : ℕ) → length (texts_of (lines_below rows i)) ≤ length (texts_of (lines_below rows (i + k)))

@@ -1,6 +1,6 @@
 // A policy's text, into a lent buffer: known first, then the room, then the lines.
 ghost use Rattle.std.specs.Prelude.{◌≡◌, ◌≤◌, length};
-ghost use Rattle.hexline.specs.Writes.{line_text, lay, after};
+ghost use Rattle.hexline.specs.Writes.{line_text, lay, put};
 ghost use Rattle.records.specs.Kinds.{bytes_of};
 ghost use Rattle.rows.specs.Lines.{line_at, lines_in};
 ghost use Rattle.policy.specs.Writes.{texts_of, size_of, write_of, written_of};
@@ -51,7 +51,7 @@ fn text_size(rows: &[u64]) -> Size
 
 // The line of a place, if there is one, laid into the buffer; the place after it.
 fn put_at(out: &mut [u8], at: usize, rows: &[u64], place: usize) -> usize
-    ensures { (result ≡ after out.old at (texts_of (line_at rows.now place))) × (out.new ≡ lay out.old at (texts_of (line_at rows.now place))) }
+    ensures { (result, out.new) ≡ put out.old at (texts_of (line_at rows.now place)) }
 {
     let row = row_at(rows, place);
     if row == 0 {

@@ -1,6 +1,6 @@
 // A record's bytes, and its line into a lent buffer at a place. Where there is no room the buffer stays as it was.
 ghost use Rattle.std.specs.Prelude.{◌≡◌, length};
-ghost use Rattle.hexline.specs.Writes.{line_text, lay, after};
+ghost use Rattle.hexline.specs.Writes.{line_text, put};
 ghost use Rattle.records.specs.Kinds.{bytes_of, padded};
 
 use crate::kind::{
@@ -63,7 +63,7 @@ pub fn record_size(rec: Record) -> usize
 
 // A record's line, all of it or nothing; the place after it.
 pub fn put_record(out: &mut [u8], at: usize, rec: Record) -> usize
-    ensures { (result ≡ after out.old at (line_text (bytes_of rec))) × (out.new ≡ lay out.old at (line_text (bytes_of rec))) }
+    ensures { (result, out.new) ≡ put out.old at (line_text (bytes_of rec)) }
 {
     let bytes = record_bytes(rec);
     let size = record_size(rec);

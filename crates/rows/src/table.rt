@@ -28,19 +28,3 @@ pub fn set_row(rows: &mut [u64], place: usize, row: u64)
 {
     store(rows, place, row);
 }
-
-// The item at a place, or another where there is none.
-pub fn item_or<T: Copy>(items: &[T], place: usize, other: T) -> T
-    ensures { result ≡ get_or items.now place other }
-{
-    items.get(place).copied().unwrap_or(other)
-}
-
-// The item is stored at its place; past the end nothing is.
-pub fn store<T: Copy>(items: &mut [T], place: usize, item: T)
-    ensures { items.new ≡ set items.old place item }
-{
-    if place < items.len() {
-        items[place] = item;
-    }
-}

@@ -10,7 +10,7 @@ use lib.Seq.{take_all, length-take-le}
 use Rattle.hexline.specs.Digits.{newline}
 use Rattle.hexline.specs.Writes.{pair_of, pairs_of, line_text}
 use Rattle.hexline.proofs.ByteLaws.{text_length}
-use Rattle.hexline.proofs.LayLaws.{laid_none, laid_more, laid_put, put_none, pairs_length, pairs_more}
+use Rattle.hexline.proofs.LayLaws.{put_place, put_buffer, laid_none, laid_more, laid_put, put_none, pairs_length, pairs_more}
 use Rattle.hexline.proofs.write.put_line.Goals as goal
 
 -- the digits of the bytes passed
@@ -35,7 +35,7 @@ loop-byte-preserved c =
     let l = c.loop-byte.invariant in
     let roomy = leb-true _ _ (sym c.room.ensures ∙ c.if-not-room.false) in
     let q = c.put_byte-place in
-    let m = laid_more l (pair_of (get_or bytes i 0)) q.new.out q.result (omega (arith, roomy, l.ends, passed bytes i (omega arith))) q.ensures.0 q.ensures.1 in
+    let m = laid_more l (pair_of (get_or bytes i 0)) q.new.out q.result (omega (arith, roomy, l.ends, passed bytes i (omega arith))) (put_place q.ensures) (put_buffer q.ensures) in
     rw (add-one, pairs_more bytes i (omega arith)) m
 
 pub returns : goal.returns
@@ -47,4 +47,4 @@ returns c =
     let l = rw (take_all i bytes (omega arith)) at c.loop-byte.invariant in
     let roomy = leb-true _ _ (sym c.room.ensures ∙ c.if-not-room.false) in
     let q = c.put_newline in
-    laid_put (laid_more l (newline ∷ []) q.new.out q.result (omega (arith, roomy, l.ends, pairs_length bytes)) q.ensures.0 q.ensures.1)
+    laid_put (laid_more l (newline ∷ []) q.new.out q.result (omega (arith, roomy, l.ends, pairs_length bytes)) (put_place q.ensures) (put_buffer q.ensures))

@@ -2,6 +2,7 @@
 use native.Mathlib.Omega.{arith}
 use mathlib.Core.Bool.{true}
 use mathlib.Core.Path.{◌≡◌, ◌∙◌}
+use Rattle.hexline.proofs.LayLaws.{put_place, put_buffer}
 use Rattle.policy.specs.Writes.{known}
 use Rattle.policy.proofs.WriteLaws.{size_lines, size_bytes, lines_fit, unknown, no_room, wrote, known_by_rows}
 use Rattle.policy.proofs.writer.write.Goals as goal
@@ -27,5 +28,5 @@ returns c =
     let size = c.text_size-size.ensures in
     let put = c.put_lines-at.ensures in
     let last = c.put_record-length.ensures in
-    wrote p _ is_known (omega (arith, size_bytes p _ size)) _ _ put.0 put.1
-    _ (size_lines p _ size) _ _ last.0 last.1
+    wrote p _ is_known (omega (arith, size_bytes p _ size)) _ _ (put_place put) (put_buffer put)
+    _ (size_lines p _ size) _ _ (put_place last) (put_buffer last)
