@@ -1,32 +1,24 @@
--- Laws of `all_below` and `any_below`: where a loop begins, its step, and its end; and `all` over the numbers below a bound.
+-- Laws of `all_below` and `any_below`: where a loop begins, its step, and its end; tests that are equal; `all` and `any` over a range.
 use Prim.Native.Nat.{ℕ, zero, suc, ◌+◌, ◌<◌}
 use mathlib.Core.Bool.{Bool, true, false, ◌&&◌, ◌||◌}
-use mathlib.Core.List.{List}
 use mathlib.Core.Path.{◌≡◌, refl, ap, ap₂, sym, ◌∙◌}
 use native.Mathlib.Omega.{arith}
 use native.Mathlib.Numerals.{add-one}
 use lib.Dec.{eqb}
-use denote.Param.Members.{Mut}
 use borrow.Author.Tests.{eqb-true, eqb-false}
+use native.Mathlib.Nat.{add-zero, zero-add}
+use denote.Param.Members.{Mut}
+use Rattle.std.proofs.Common.{Option, List}
+use Rattle.std.proofs.Math.Bool.{and-false, and-true, and_assoc, or-false, or-true, or_assoc}
 use Rattle.std.specs.declared.ops.Range.{Range}
-use Rattle.std.specs.declared.option.Option.{Option}
-use Rattle.std.specs.Fn.{Called}
-use Rattle.std.specs.Iterator.{YieldsThen}
-use Rattle.std.specs.List.{FoldsTo, list_all, range_with_len}
-use Rattle.std.specs.Option.{MatchOption}
-use Rattle.std.proofs.Math.Bool.{and-true, and_assoc}
 use Rattle.std.proofs.iter.Yields.{nat_range_steps}
 use Rattle.std.proofs.lemmas.Iterator.{YieldsList-from_range}
-use Rattle.std.proofs.lemmas.Iterator.Search.{all_from_yields_List}
+use Rattle.std.proofs.lemmas.Iterator.Search.{all_from_yields_List, any_from_yields_List}
+use Rattle.std.specs.Fn.{Called}
+use Rattle.std.specs.Iterator.{YieldsThen}
+use Rattle.std.specs.List.{FoldsTo, list_all, list_any, range_with_len}
+use Rattle.std.specs.Option.{MatchOption}
 use Rattle.rules.specs.Rules.{all_below, any_below}
-
-and-false : (a : Bool) → a && false ≡ false
-and-false true = refl
-and-false false = refl
-
-or-true : (a : Bool) → a || true ≡ true
-or-true true = refl
-or-true false = refl
 
 -- ---- all
 
@@ -52,27 +44,6 @@ below_stop (suc n) f i l e =
 -- all pass
 pub below_end : (n : ℕ) (f : ℕ → Bool) (i : ℕ) → i ≡ n → all_below i f ≡ true → true ≡ all_below n f
 below_end n f i e a = rw e at (sym a)
-
--- ---- the numbers below n as a list
-
--- one number more
-range_more : (f : ℕ → Bool) (n a m : ℕ) → a + n ≡ m → list_all f (range_with_len a (suc n)) ≡ (list_all f (range_with_len a n) && f m)
-range_more f zero a m e = let h : a ≡ m = omega arith in rw h (and-true (f m))
-range_more f (suc n) a m e = ap (λ b. f a && b) (range_more f n (a + 1) m (omega arith)) ∙ sym (and_assoc (f a) _ (f m))
-
-below_ranged : (n : ℕ) (f : ℕ → Bool) → list_all f (range_with_len 0 n) ≡ all_below n f
-unfolding all_below
-below_ranged zero f = refl
-below_ranged (suc n) f = range_more f n 0 n (omega arith) ∙ ap (λ b. b && f n) (below_ranged n f)
-
--- what `(0..n).all(test)` answers, by its clause `ran` and what a call of the test answers
-pub ranged_all : {F : Type 0} {g : Mut F (ℕ × Unit {0}) Bool} {s u : Range ℕ} {h : F} {r : Bool} (n : ℕ) (f : ℕ → Bool)
-    → (xs : List ℕ) × (o : Option ℕ) × (j : F) × YieldsThen nat_range_steps s xs o u × FoldsTo (λ p x q. Called g p (x, tt) true q) h xs j
-    × MatchOption o (r ≡ true) (λ x. (r ≡ false) × ((k : F) × Called g j (x, tt) false k))
-    → s ≡ record { start = 0; end = n }
-    → ((x : ℕ) (b : Bool) (q : F) → Called g h (x, tt) b q → (q ≡ h) × (b ≡ f x))
-    → r ≡ all_below n f
-ranged_all {F} {g} {s} {u} {h} {r} n f ran e k = all_from_yields_List f u h r ran (YieldsList-from_range 0 n n e (omega arith)) k ∙ below_ranged n f
 
 -- ---- any
 
@@ -110,3 +81,37 @@ pub any_same : (n : ℕ) (f g : ℕ → Bool) → ((i : ℕ) → i < n → f i �
 unfolding any_below
 any_same zero f g h = refl
 any_same (suc n) f g h = ap₂ (λ (a : Bool) (b : Bool). a || b) (any_same n f g (λ i l. h i (omega arith))) (h n (omega arith))
+
+-- ---- `all` and `any` over the numbers below a bound
+
+-- the last of them tested last
+all_last : (f : ℕ → Bool) (a n : ℕ) → list_all f (range_with_len a (suc n)) ≡ list_all f (range_with_len a n) && f (a + n)
+all_last f a zero = rw add-zero (and-true (f a))
+all_last f a (suc n) = rw (all_last f (a + 1) n) (let e : a + 1 + n ≡ a + suc n = omega arith in rw (e, and_assoc))
+
+any_last : (f : ℕ → Bool) (a n : ℕ) → list_any f (range_with_len a (suc n)) ≡ list_any f (range_with_len a n) || f (a + n)
+any_last f a zero = rw add-zero (or-false (f a))
+any_last f a (suc n) = rw (any_last f (a + 1) n) (let e : a + 1 + n ≡ a + suc n = omega arith in rw (e, or_assoc))
+
+all_range : (f : ℕ → Bool) (n : ℕ) → list_all f (range_with_len 0 n) ≡ all_below n f
+unfolding all_below
+all_range f zero = refl
+all_range f (suc n) = all_last f 0 n ∙ rw (all_range f n, zero-add) refl
+
+any_range : (f : ℕ → Bool) (n : ℕ) → list_any f (range_with_len 0 n) ≡ any_below n f
+unfolding any_below
+any_range f zero = refl
+any_range f (suc n) = any_last f 0 n ∙ rw (any_range f n, zero-add) refl
+
+module _ {F : Type 0} {g : Mut F (ℕ × Unit {0}) Bool} {n : ℕ} {u : Range ℕ} {f : F} {r : Bool} {test : ℕ → Bool} where
+  -- the result of `(0..n).all(f)`, by its clause `ran` and what f computes
+  pub ranged_all :
+      (xs : List ℕ) × (o : Option ℕ) × (j : F) × YieldsThen nat_range_steps (record { start = 0; end = n }) xs o u × FoldsTo (λ p x q. Called g p (x, tt) true q) f xs j × MatchOption o (r ≡ true) (λ x. (r ≡ false) × ((h : F) × Called g j (x, tt) false h))
+      → ((x : ℕ) (b : Bool) (q : F) → Called g f (x, tt) b q → (q ≡ f) × (b ≡ test x)) → r ≡ all_below n test
+  ranged_all ran computes = all_from_yields_List test _ _ r ran (YieldsList-from_range 0 n n refl (omega arith)) computes ∙ all_range test n
+
+  -- and of `(0..n).any(f)`
+  pub ranged_any :
+      (xs : List ℕ) × (o : Option ℕ) × (j : F) × YieldsThen nat_range_steps (record { start = 0; end = n }) xs o u × FoldsTo (λ p x q. Called g p (x, tt) false q) f xs j × MatchOption o (r ≡ false) (λ x. (r ≡ true) × ((h : F) × Called g j (x, tt) true h))
+      → ((x : ℕ) (b : Bool) (q : F) → Called g f (x, tt) b q → (q ≡ f) × (b ≡ test x)) → r ≡ any_below n test
+  ranged_any ran computes = any_from_yields_List test _ _ r ran (YieldsList-from_range 0 n n refl (omega arith)) computes ∙ any_range test n

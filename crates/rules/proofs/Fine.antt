@@ -8,7 +8,8 @@ use mathlib.Core.Path.{◌≡◌, refl}
 use native.Mathlib.Omega.{arith}
 use lib.Dec.{ltb, leb, eqb}
 use lib.ListN.{length}
-use borrow.Author.Tests.{ltb-true, leb-true, eqb-true, not-true, not-false}
+use borrow.Author.Rules.{rules}
+use borrow.Author.Tests.{ltb-true, leb-true, eqb-true, not-true, not-false, tests}
 use Rattle.hexline.proofs.Cond.{by_cond, both}
 use Rattle.records.specs.declared.kind.Counts.{Counts}
 use Rattle.records.specs.declared.kind.Record.{Record}
@@ -17,7 +18,7 @@ use Rattle.records.specs.Kinds.{kind_of, bytes_of, header_in}
 use Rattle.rows.specs.Lawful.{Fits}
 use Rattle.rules.specs.Said.{said_in, last_kind, header_line}
 use Rattle.rules.specs.Lawful.{Smallest}
-use Rattle.rules.specs.Rules.{wrong_kind, counts_in_range, partition_in_range, group_in_range, subject_in_range, longest_frame, frame_in_range, event_in_range, trap_in_range, target_in_range, routable, route_in_range, in_range, out_of_order, incomplete, misplaced, uneven, judged, verdict, Fair}
+use Rattle.rules.specs.Rules.{wrong_kind, counts_in_range, partition_in_range, group_in_range, subject_in_range, frame_in_range, event_in_range, trap_in_range, target_in_range, routable, route_in_range, in_range, out_of_order, incomplete, misplaced, uneven, judged, verdict, Fair}
 
 -- ---- the table, from its first rule to its last
 
@@ -55,18 +56,7 @@ pub record CountsFit (n : Counts) : Type 0 where
 
 header_fit : (h : Counts) → counts_in_range h ≡ true → CountsFit h
 unfolding counts_in_range
-header_fit h t =
-    let a = both (leb 1 h.cpus && leb h.cpus 4) _ t in
-    let b = both (leb 1 h.subjects && leb h.subjects 16) _ a.1 in
-    let c = both (leb 1 h.groups && leb h.groups 16) _ b.1 in
-    let d = both (leb 1 h.partitions && leb h.partitions 8) _ c.1 in
-    record {
-      cpus = leb-true _ _ (both (leb 1 h.cpus) _ a.0).1;
-      subjects = leb-true _ _ (both (leb 1 h.subjects) _ b.0).1;
-      groups = leb-true _ _ (both (leb 1 h.groups) _ c.0).1;
-      partitions = leb-true _ _ (both (leb 1 h.partitions) _ d.0).1;
-      majors = leb-true _ _ (both (leb 1 h.majors) _ d.1).1;
-    }
+header_fit h t = search (rules, tests)
 
 pub in_header : (e : List Record) (h : Counts) → in_range (said_in e).counts (Header h) ≡ true → counts_in_range h ≡ true
 unfolding in_range
@@ -104,33 +94,11 @@ target_fits false b action vector f g t = g t
 -- a line in range has a place, and its fields fit their bytes
 pub fits_of : (n : Counts) → CountsFit n → (r : Record) → in_range n r ≡ true → (kind_of r ≡ 10 → ⊥) → Fits r
 unfolding Fits in_range counts_in_range partition_in_range group_in_range subject_in_range frame_in_range event_in_range trap_in_range target_in_range routable route_in_range kind_of
-fits_of n f (Header h) t k = let c = header_fit h t in omega arith
-fits_of n f (Partition p) t k =
-    let a = both (ltb p.number n.partitions) _ t in
-    let x : p.number < n.partitions = ltb-true _ _ a.0 in
-    let y : p.cpu < n.cpus = ltb-true _ _ a.1 in
-    omega arith
-fits_of n f (Group g) t k =
-    let a = both (ltb g.number n.groups) _ t in
-    let x : g.number < n.groups = ltb-true _ _ a.0 in
-    let y : g.partition < n.partitions = ltb-true _ _ a.1 in
-    omega arith
-fits_of n f (Subject s) t k =
-    let a = both (ltb s.number n.subjects) _ t in
-    let b = both (ltb s.group n.groups) _ a.1 in
-    let x : s.number < n.subjects = ltb-true _ _ a.0 in
-    let y : s.group < n.groups = ltb-true _ _ b.0 in
-    let z : s.default_event ≤ 15 = leb-true _ _ b.1 in
-    omega arith
-fits_of n f (Frame m) t k =
-    let a = both (ltb m.major n.majors) _ t in
-    let b = both (ltb m.cpu n.cpus) _ a.1 in
-    let c = both (ltb m.partition n.partitions) _ b.1 in
-    let x : m.major < n.majors = ltb-true _ _ a.0 in
-    let y : m.cpu < n.cpus = ltb-true _ _ b.0 in
-    let z : m.partition < n.partitions = ltb-true _ _ c.0 in
-    let l : m.length ≤ longest_frame = leb-true _ _ (both (leb 1 m.length) _ c.1).1 in
-    omega arith
+fits_of n f (Header x) t k = search (rules, tests)
+fits_of n f (Partition x) t k = search (rules, tests)
+fits_of n f (Group x) t k = search (rules, tests)
+fits_of n f (Subject x) t k = search (rules, tests)
+fits_of n f (Frame x) t k = search (rules, tests)
 fits_of n f (Event v) t k =
     let a = both (ltb v.subject n.subjects) _ t in
     let b = both (leb v.event 15) _ a.1 in
@@ -146,13 +114,7 @@ fits_of n f (Event v) t k =
     let p = or_none (leb v.target_event 31) v.target_event (λ e. omega (arith, leb-true v.target_event 31 e)) h.0 in
     let q : v.kick ≤ 1 = leb-true _ _ h.1 in
     omega arith
-fits_of n f (Trap s) t k =
-    let a = both (ltb s.subject n.subjects) _ t in
-    let b = both (leb s.trap 59) _ a.1 in
-    let x : s.subject < n.subjects = ltb-true _ _ a.0 in
-    let y : s.trap ≤ 59 = leb-true _ _ b.0 in
-    let z : s.event ≤ 15 = leb-true _ _ b.1 in
-    omega arith
+fits_of n f (Trap x) t k = search (rules, tests)
 fits_of n f (Target s) t k =
     let a = both (ltb s.subject n.subjects) _ t in
     let b = both (leb s.event 31) _ a.1 in

@@ -1,7 +1,7 @@
 -- Minor frames: the 05 lines of a major and CPU stand one after the other in its eight places, so the next place tells how many there
 -- are, and a ninth has none. With each line read, of this kind or another, that stays so.
 use Prim.Native.Nat.{ℕ, suc, ◌+◌, ◌*◌, ◌≤◌, ◌<◌}
-use mathlib.Core.Bool.{Bool, true, false, cond, not, ◌&&◌, ◌||◌}
+use mathlib.Core.Bool.{Bool, true, false, cond, ◌&&◌, ◌||◌}
 use mathlib.Core.List.{List, [], ◌∷◌}
 use mathlib.Core.Logic.{◌⊎◌, inl, inr}
 use mathlib.Core.Path.{◌≡◌, refl, ap, sym, ◌∙◌}
@@ -9,11 +9,12 @@ use native.Mathlib.Omega.{arith}
 use native.Mathlib.Decide.{dec_lt, ℕ_discrete}
 use lib.Dec.{ltb, leb, eqb}
 use lib.ListN.{length}
-use borrow.Author.Tests.{ltb-true, leb-true, eqb-true, eq-eqb, ne_eqb, lt-ltb, le-leb, lt-leb}
+use borrow.Author.Rules.{rules}
+use borrow.Author.Tests.{ltb-true, leb-true, eqb-true, eq-eqb, ne_eqb, lt-ltb, le-leb, lt-leb, tests}
 use Rattle.hexline.proofs.Cond.{same_test}
 use Rattle.records.specs.declared.kind.FrameLine.{FrameLine}
 use Rattle.records.specs.declared.kind.Record.{Record}
-use Rattle.records.specs.declared.kind.Record.TheVariants.{Header, Partition, Group, Subject, Frame, Event, Trap, Target, Route, End}
+use Rattle.records.specs.declared.kind.Record.TheVariants.{Frame}
 use Rattle.records.specs.Kinds.{kind_of, bytes_of}
 use Rattle.rows.specs.Places.{frames_start, events_start, frames_place, place_of}
 use Rattle.rows.specs.Lawful.{Fits, Room, part_start, part_end}
@@ -39,16 +40,7 @@ counted_none m c = record { few = omega arith; ahead = λ h. refl; inside = λ h
 -- stands outside the minor frames' part
 pub off_frames : (next : ℕ) (r : Record) → Fits r → Room next r → (kind_of r ≡ 5 → ⊥) → (place_of next r < frames_start) ⊎ (events_start ≤ place_of next r)
 unfolding part_start part_end kind_of
-off_frames next (Header h) f m k = inl (omega (arith, below next (Header h) f m))
-off_frames next (Partition p) f m k = inl (omega (arith, below next (Partition p) f m))
-off_frames next (Group g) f m k = inl (omega (arith, below next (Group g) f m))
-off_frames next (Subject s) f m k = inl (omega (arith, below next (Subject s) f m))
-off_frames next (Frame g) f m k = absurd (k refl)
-off_frames next (Event v) f m k = inr (omega (arith, from next (Event v)))
-off_frames next (Trap t) f m k = inr (omega (arith, from next (Trap t)))
-off_frames next (Target t) f m k = inr (omega (arith, from next (Target t)))
-off_frames next (Route w) f m k = inr (omega (arith, from next (Route w)))
-off_frames next (End j) f m k = inr (omega (arith, from next (End j)))
+off_frames next r f m k = search (rules, tests, below, from)
 
 pub frames_skip : (m c : ℕ) (r : Record) (e : List Record) → (kind_of r ≡ 5 → ⊥) → frames_of m c (r ∷ e) ≡ frames_of m c e
 unfolding frames_of
@@ -134,11 +126,7 @@ frame_before f g a b = sym (lex 4 f.major f.cpu g.major g.cpu (omega arith) (ome
 frame_order : (f : FrameLine) (last : Record) (e : List Record)
     → out_of_order (last ∷ e) (Frame f) ≡ ((eqb (kind_of last) 5 && before (key_of (Frame f)) (key_of last)) || leb 8 (length (frames_of f.major f.cpu (last ∷ e))))
 unfolding out_of_order follows ninth kind_of key_of
-frame_order f last e = rw (twice (before (f.major, f.cpu) (key_of last)))
-  where
-    twice : (a : Bool) → not (not a) ≡ a
-    twice true = refl
-    twice false = refl
+frame_order f last e = search (rules, tests)
 
 or_left : (a b : Bool) → a ≡ true → (a || b) ≡ true
 or_left a b e = rw e
@@ -154,29 +142,11 @@ or_cases false b e = inr e
 -- a line is a minor frame, or of another kind
 pub frame_or : (r : Record) → ((g : FrameLine) × (r ≡ Frame g)) ⊎ (kind_of r ≡ 5 → ⊥)
 unfolding kind_of
-frame_or (Header h) = inr (λ q. omega arith)
-frame_or (Partition p) = inr (λ q. omega arith)
-frame_or (Group g) = inr (λ q. omega arith)
-frame_or (Subject s) = inr (λ q. omega arith)
-frame_or (Frame g) = inl (g, refl)
-frame_or (Event v) = inr (λ q. omega arith)
-frame_or (Trap t) = inr (λ q. omega arith)
-frame_or (Target t) = inr (λ q. omega arith)
-frame_or (Route w) = inr (λ q. omega arith)
-frame_or (End k) = inr (λ q. omega arith)
+frame_or r = search (rules, tests)
 
 lower_kind : (next : ℕ) (r : Record) → Fits r → Room next r → (kind_of r ≡ 5 → ⊥) → kind_of r ≤ 5 → place_of next r < frames_start
 unfolding part_end kind_of
-lower_kind next (Header h) f m k l = omega (arith, below next (Header h) f m)
-lower_kind next (Partition p) f m k l = omega (arith, below next (Partition p) f m)
-lower_kind next (Group g) f m k l = omega (arith, below next (Group g) f m)
-lower_kind next (Subject s) f m k l = omega (arith, below next (Subject s) f m)
-lower_kind next (Frame g) f m k l = absurd (k refl)
-lower_kind next (Event v) f m k l = absurd (omega arith)
-lower_kind next (Trap t) f m k l = absurd (omega arith)
-lower_kind next (Target t) f m k l = absurd (omega arith)
-lower_kind next (Route w) f m k l = absurd (omega arith)
-lower_kind next (End j) f m k l = absurd (omega arith)
+lower_kind next r f m k l = search (rules, tests, below)
 
 behind_frame : (next : ℕ) (f : FrameLine) → behind next (Frame f) ≡ leb (frames_place f.major f.cpu + 8) next
 unfolding behind

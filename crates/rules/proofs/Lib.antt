@@ -1,6 +1,5 @@
 pub mod Below
 pub mod PlanLaws
-pub mod OtherKinds
 pub mod Fine
 pub mod Order
 pub mod Frames

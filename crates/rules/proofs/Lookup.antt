@@ -8,9 +8,10 @@ use native.Mathlib.Omega.{arith}
 use native.Mathlib.Decide.{dec_lt}
 use lib.Dec.{eqb}
 use lib.ListN.{get_or}
-use borrow.Author.Tests.{eqb-true, eqb-false, eq-eqb, ne_eqb}
+use borrow.Author.Rules.{rules}
+use borrow.Author.Tests.{eqb-true, eqb-false, eq-eqb, ne_eqb, tests}
 use Rattle.records.specs.declared.kind.Record.{Record}
-use Rattle.records.specs.declared.kind.Record.TheVariants.{Header, Partition, Group, Subject, Frame, Event, Trap, Target, Route, End}
+use Rattle.records.specs.declared.kind.Record.TheVariants.{Partition, Group, Subject}
 use Rattle.records.specs.Kinds.{kind_of, bytes_of}
 use Rattle.rows.specs.Places.{partitions_start, groups_start, subjects_start, place_of}
 use Rattle.rows.specs.Rows.{row_of}
@@ -63,16 +64,7 @@ byte_row (b ∷ bytes) = 256 + get_or (b ∷ bytes) 2 0
 
 same_partition : (next : ℕ) (r : Record) → kind_of r ≡ 2 → (place_of next r ≡ partitions_start + get_or (bytes_of r) 1 0) × (row_of r ≡ byte_row (bytes_of r))
 unfolding kind_of place_of row_of bytes_of byte_row
-same_partition next (Header x) q = absurd (omega arith)
-same_partition next (Partition x) q = (refl, refl)
-same_partition next (Group x) q = absurd (omega arith)
-same_partition next (Subject x) q = absurd (omega arith)
-same_partition next (Frame x) q = absurd (omega arith)
-same_partition next (Event x) q = absurd (omega arith)
-same_partition next (Trap x) q = absurd (omega arith)
-same_partition next (Target x) q = absurd (omega arith)
-same_partition next (Route x) q = absurd (omega arith)
-same_partition next (End x) q = absurd (omega arith)
+same_partition next r q = search (rules, tests)
 
 kept_partition : (next : ℕ) (r : Record) → Fits r → Room next r → Kept 2 partitions_start 8 byte_row next r
 unfolding kind_of part_start part_end
@@ -83,16 +75,7 @@ kept_partition next r f m =
 
 same_group : (next : ℕ) (r : Record) → kind_of r ≡ 3 → (place_of next r ≡ groups_start + get_or (bytes_of r) 1 0) × (row_of r ≡ byte_row (bytes_of r))
 unfolding kind_of place_of row_of bytes_of byte_row
-same_group next (Header x) q = absurd (omega arith)
-same_group next (Partition x) q = absurd (omega arith)
-same_group next (Group x) q = (refl, refl)
-same_group next (Subject x) q = absurd (omega arith)
-same_group next (Frame x) q = absurd (omega arith)
-same_group next (Event x) q = absurd (omega arith)
-same_group next (Trap x) q = absurd (omega arith)
-same_group next (Target x) q = absurd (omega arith)
-same_group next (Route x) q = absurd (omega arith)
-same_group next (End x) q = absurd (omega arith)
+same_group next r q = search (rules, tests)
 
 kept_group : (next : ℕ) (r : Record) → Fits r → Room next r → Kept 3 groups_start 16 byte_row next r
 unfolding kind_of part_start part_end
@@ -108,16 +91,7 @@ subject_row (b ∷ bytes) = (256 + get_or (b ∷ bytes) 2 0) * 256 + get_or (b �
 
 same_subject : (next : ℕ) (r : Record) → kind_of r ≡ 4 → (place_of next r ≡ subjects_start + get_or (bytes_of r) 1 0) × (row_of r ≡ subject_row (bytes_of r))
 unfolding kind_of place_of row_of bytes_of subject_row
-same_subject next (Header x) q = absurd (omega arith)
-same_subject next (Partition x) q = absurd (omega arith)
-same_subject next (Group x) q = absurd (omega arith)
-same_subject next (Subject x) q = (refl, refl)
-same_subject next (Frame x) q = absurd (omega arith)
-same_subject next (Event x) q = absurd (omega arith)
-same_subject next (Trap x) q = absurd (omega arith)
-same_subject next (Target x) q = absurd (omega arith)
-same_subject next (Route x) q = absurd (omega arith)
-same_subject next (End x) q = absurd (omega arith)
+same_subject next r q = search (rules, tests)
 
 kept_subject : (next : ℕ) (r : Record) → Fits r → Room next r → Kept 4 subjects_start 16 subject_row next r
 unfolding kind_of part_start part_end

@@ -1,16 +1,16 @@
 -- Places rise exactly as lines do: a line's key is out of order where its place is not past the last line's. Of two kinds the parts of
 -- the table lie in the kinds' order; inside a kind a place is the key's two parts in one number.
 use Prim.Native.Nat.{ℕ, zero, suc, ◌+◌, ◌-◌, ◌*◌, ◌≤◌, ◌<◌}
-use mathlib.Core.Bool.{Bool, true, false, cond, not, ◌&&◌, ◌||◌, true≢false}
+use mathlib.Core.Bool.{Bool, true, false, cond, not, ◌&&◌, ◌||◌}
 use mathlib.Core.List.{List, ◌∷◌}
 use mathlib.Core.Path.{◌≡◌, refl, ap, sym, ◌∙◌}
 use native.Mathlib.Omega.{arith}
 use native.Mathlib.Nat.{mul-le-mul_right, suc-mul}
 use lib.Dec.{ltb, eqb}
-use borrow.Author.Tests.{ltb-true, ltb-false, eqb-true, eqb-false, ne_eqb, lt-ltb, le-ltb, not-true}
+use borrow.Author.Rules.{rules}
+use borrow.Author.Tests.{ltb-true, ltb-false, eqb-true, eqb-false, lt-ltb, le-ltb, not-true, tests}
 use Rattle.hexline.proofs.Cond.{same_test}
 use Rattle.records.specs.declared.kind.Record.{Record}
-use Rattle.records.specs.declared.kind.Record.TheVariants.{Header, Partition, Group, Subject, Frame, Event, Trap, Target, Route, End}
 use Rattle.records.specs.Kinds.{kind_of}
 use Rattle.rows.specs.Places.{partitions_start, groups_start, subjects_start, frames_start, events_start, traps_start, targets_start, routes_start, row_count, place_of}
 use Rattle.rows.specs.Lawful.{Fits, Room, part_start, part_end}
@@ -37,17 +37,7 @@ start_of (suc (suc (suc (suc (suc (suc (suc (suc (suc (suc k)))))))))) = row_cou
 
 start_step : (k : ℕ) → start_of k ≤ start_of (suc k)
 unfolding start_of
-start_step zero = omega arith
-start_step (suc zero) = omega arith
-start_step (suc (suc zero)) = omega arith
-start_step (suc (suc (suc zero))) = omega arith
-start_step (suc (suc (suc (suc zero)))) = omega arith
-start_step (suc (suc (suc (suc (suc zero))))) = omega arith
-start_step (suc (suc (suc (suc (suc (suc zero)))))) = omega arith
-start_step (suc (suc (suc (suc (suc (suc (suc zero))))))) = omega arith
-start_step (suc (suc (suc (suc (suc (suc (suc (suc zero)))))))) = omega arith
-start_step (suc (suc (suc (suc (suc (suc (suc (suc (suc zero))))))))) = omega arith
-start_step (suc (suc (suc (suc (suc (suc (suc (suc (suc (suc k)))))))))) = omega arith
+start_step k = search (rules, tests)
 
 start_mono : (j k : ℕ) → start_of j ≤ start_of (j + k)
 start_mono j zero = let z : j + 0 ≡ j = omega arith in rw z (omega arith)
@@ -55,29 +45,11 @@ start_mono j (suc k) = let z : j + suc k ≡ suc (j + k) = omega arith in rw z (
 
 part_starts : (r : Record) → part_start r ≡ start_of (kind_of r)
 unfolding part_start start_of kind_of
-part_starts (Header h) = refl
-part_starts (Partition p) = refl
-part_starts (Group g) = refl
-part_starts (Subject s) = refl
-part_starts (Frame f) = refl
-part_starts (Event e) = refl
-part_starts (Trap t) = refl
-part_starts (Target t) = refl
-part_starts (Route w) = refl
-part_starts (End k) = refl
+part_starts r = search (rules, tests)
 
 part_ends : (r : Record) → part_end r ≡ start_of (suc (kind_of r))
 unfolding part_end start_of kind_of
-part_ends (Header h) = refl
-part_ends (Partition p) = refl
-part_ends (Group g) = refl
-part_ends (Subject s) = refl
-part_ends (Frame f) = refl
-part_ends (Event e) = refl
-part_ends (Trap t) = refl
-part_ends (Target t) = refl
-part_ends (Route w) = refl
-part_ends (End k) = refl
+part_ends r = search (rules, tests)
 
 -- the part of a lower kind ends before that of a higher one begins
 pub parts_apart : (last r : Record) → kind_of last < kind_of r → part_end last ≤ part_start r
@@ -119,16 +91,7 @@ Rises r = (kind_of r ≡ 1 → ⊥) × ((kind_of r ≡ 5 → ⊥) × (kind_of r 
 
 keyed : (next : ℕ) (r : Record) → Fits r → Rises r → Keyed next r
 unfolding place_of start_of kind_of key_of width_of Fits
-keyed next (Header h) f k = absurd (k.0 refl)
-keyed next (Partition p) f k = record { place = omega arith; second = omega arith }
-keyed next (Group g) f k = record { place = omega arith; second = omega arith }
-keyed next (Subject s) f k = record { place = omega arith; second = omega arith }
-keyed next (Frame m) f k = absurd (k.1.0 refl)
-keyed next (Event e) f k = record { place = omega arith; second = omega arith }
-keyed next (Trap t) f k = record { place = omega arith; second = omega arith }
-keyed next (Target t) f k = record { place = omega arith; second = omega arith }
-keyed next (Route w) f k = record { place = omega arith; second = omega arith }
-keyed next (End j) f k = absurd (k.1.1 refl)
+keyed next r f k = search (rules, tests)
 
 -- not past the last
 not_past : (x y : ℕ) → ltb x (suc y) ≡ not (ltb y x)
@@ -166,29 +129,13 @@ pub record KindMay (last kind : ℕ) : Type 0 where
   pub unended : last ≡ 10 → ⊥
   pub second : kind ≡ 1 → ⊥
 
-pub neither_of : (a b : Bool) → (a || b) ≡ false → (a ≡ false) × (b ≡ false)
-neither_of true b e = (e, absurd (true≢false e))
-neither_of false b e = (refl, e)
-
 pub kind_may : (last kind : ℕ) → (last ≡ 0 → ⊥) → wrong_kind last kind ≡ false → KindMay last kind
 unfolding wrong_kind
-kind_may last kind d w =
-    let a = neither_of (eqb kind 1) (eqb last 10 || ltb kind last) (rw (ne_eqb last 0 d) at w) in
-    let b = neither_of (eqb last 10) (ltb kind last) a.1 in
-    record { least = ltb-false kind last b.1; unended = eqb-false last 10 b.0; second = eqb-false kind 1 a.0 }
+kind_may last kind d w = search (rules, tests)
 
 pub kind_some : (r : Record) → kind_of r ≡ 0 → ⊥
 unfolding kind_of
-kind_some (Header h) e = omega arith
-kind_some (Partition p) e = omega arith
-kind_some (Group g) e = omega arith
-kind_some (Subject s) e = omega arith
-kind_some (Frame f) e = omega arith
-kind_some (Event v) e = omega arith
-kind_some (Trap t) e = omega arith
-kind_some (Target t) e = omega arith
-kind_some (Route w) e = omega arith
-kind_some (End k) e = omega arith
+kind_some r e = grind arith
 
 -- a line of a higher kind stands past the last
 pub higher : (a b : ℕ) (last r : Record) → Fits last → Room a last → kind_of last < kind_of r → place_of a last < place_of b r
@@ -196,24 +143,11 @@ higher a b last r f m h = omega (arith, below a last f m, parts_apart last r h, 
 
 behind_keyed : (next : ℕ) (r : Record) → Rises r → behind next r ≡ ltb (place_of next r) next
 unfolding behind kind_of
-behind_keyed next (Header h) k = absurd (k.0 refl)
-behind_keyed next (Partition p) k = refl
-behind_keyed next (Group g) k = refl
-behind_keyed next (Subject s) k = refl
-behind_keyed next (Frame m) k = absurd (k.1.0 refl)
-behind_keyed next (Event e) k = refl
-behind_keyed next (Trap t) k = refl
-behind_keyed next (Target t) k = refl
-behind_keyed next (Route w) k = refl
-behind_keyed next (End j) k = absurd (k.1.1 refl)
+behind_keyed next r k = search (rules, tests)
 
 order_keyed : (last : Record) (e : List Record) (r : Record) → Rises r → out_of_order (last ∷ e) r ≡ (eqb (kind_of last) (kind_of r) && not (before (key_of last) (key_of r)))
 unfolding out_of_order follows ninth
-order_keyed last e r k = rw (ne_eqb (kind_of r) 5 k.1.0) (or_none (eqb (kind_of last) (kind_of r) && not (before (key_of last) (key_of r))))
-  where
-    or_none : (a : Bool) → (a || false) ≡ a
-    or_none true = refl
-    or_none false = refl
+order_keyed last e r k = search (rules, tests)
 
 -- the place tells the order, of a key that rises strictly
 pub rises_in_order : (last : Record) (e : List Record) (r : Record) → Fits last → Room (next_in e) last → Fits r → Rises r → kind_of last ≤ kind_of r

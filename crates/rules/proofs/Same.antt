@@ -1,18 +1,19 @@
 -- What a table says is what the lines say that it was filled by: each lookup of `Said`, for the numbers that the header's counts allow.
 -- By the row at the key's place (`Lookup.antt`, `FrameRows.antt`).
-use Prim.Native.Nat.{ℕ, ◌+◌, ◌/◌, ◌%◌, ◌≤◌, ◌<◌}
+use Prim.Native.Nat.{ℕ, ◌+◌, ◌/◌, ◌%◌, ◌<◌}
 use mathlib.Core.Bool.{true, not, ◌&&◌}
 use mathlib.Core.List.{List, [], ◌∷◌}
 use mathlib.Core.Logic.{◌⊎◌, inl, inr}
 use mathlib.Core.Path.{◌≡◌, refl, ap, sym, ◌∙◌}
 use native.Mathlib.Omega.{arith}
-use lib.Dec.{ltb, eqb}
+use lib.Dec.{eqb}
 use lib.ListN.{length, get_or}
-use borrow.Author.Tests.{ltb-true, leb-true, eqb-true, ne_eqb}
+use borrow.Author.Rules.{rules}
+use borrow.Author.Tests.{eqb-true, ne_eqb, tests}
 use Rattle.hexline.proofs.Cond.{by_cond, both}
 use Rattle.records.specs.declared.kind.Counts.{Counts}
 use Rattle.records.specs.declared.kind.Record.{Record}
-use Rattle.records.specs.declared.kind.Record.TheVariants.{Header, Partition, Group, Subject, Frame, Event, Trap, Target, Route, End}
+use Rattle.records.specs.declared.kind.Record.TheVariants.{Header}
 use Rattle.records.specs.Kinds.{kind_of, bytes_of, header_in}
 use Rattle.rows.specs.Places.{partitions_start, groups_start, subjects_start, row_count, frames_place, place_of}
 use Rattle.rows.specs.Rows.{row_of, counts_in}
@@ -54,16 +55,7 @@ header_here h f =
 
 header_only : (next : ℕ) (r : Record) → (kind_of r ≡ 1 → ⊥) → place_of next r ≡ 0 → ⊥
 unfolding kind_of part_start
-header_only next (Header h) k q = k refl
-header_only next (Partition p) k q = omega (arith, from next (Partition p))
-header_only next (Group g) k q = omega (arith, from next (Group g))
-header_only next (Subject s) k q = omega (arith, from next (Subject s))
-header_only next (Frame f) k q = omega (arith, from next (Frame f))
-header_only next (Event v) k q = omega (arith, from next (Event v))
-header_only next (Trap t) k q = omega (arith, from next (Trap t))
-header_only next (Target t) k q = omega (arith, from next (Target t))
-header_only next (Route w) k q = omega (arith, from next (Route w))
-header_only next (End j) k q = omega (arith, from next (End j))
+header_only next r k q = search (rules, tests, from)
 
 no_header : counts_in (row_in [] 0) ≡ header_in (header_line [])
 unfolding row_in header_in header_line
@@ -83,16 +75,7 @@ header_row h e = refl
 
 header_or : (r : Record) → ((h : Counts) × (r ≡ Header h)) ⊎ (kind_of r ≡ 1 → ⊥)
 unfolding kind_of
-header_or (Header h) = inl (h, refl)
-header_or (Partition p) = inr (λ q. omega arith)
-header_or (Group g) = inr (λ q. omega arith)
-header_or (Subject s) = inr (λ q. omega arith)
-header_or (Frame f) = inr (λ q. omega arith)
-header_or (Event v) = inr (λ q. omega arith)
-header_or (Trap t) = inr (λ q. omega arith)
-header_or (Target t) = inr (λ q. omega arith)
-header_or (Route w) = inr (λ q. omega arith)
-header_or (End k) = inr (λ q. omega arith)
+header_or r = search (rules, tests)
 
 header_said : (e : List Record) → Placed e → counts_in (row_in e 0) ≡ header_in (header_line e)
 unfolding Placed
@@ -113,25 +96,7 @@ pub record Small (n : Counts) (r : Record) : Type 0 where
 
 pub small : (n : Counts) (r : Record) → in_range n r ≡ true → Small n r
 unfolding kind_of bytes_of in_range partition_in_range group_in_range subject_in_range
-small n (Header x) t = record { cpu = λ q. absurd (omega arith); partition = λ q. absurd (omega arith); group = λ q. absurd (omega arith); default = λ q. absurd (omega arith) }
-small n (Partition p) t =
-    let x : p.cpu < n.cpus = ltb-true _ _ (both (ltb p.number n.partitions) _ t).1 in
-    record { cpu = λ q. omega arith; partition = λ q. absurd (omega arith); group = λ q. absurd (omega arith); default = λ q. absurd (omega arith) }
-small n (Group g) t =
-    let x : g.partition < n.partitions = ltb-true _ _ (both (ltb g.number n.groups) _ t).1 in
-    record { cpu = λ q. absurd (omega arith); partition = λ q. omega arith; group = λ q. absurd (omega arith); default = λ q. absurd (omega arith) }
-small n (Subject s) t =
-    let a = both (ltb s.number n.subjects) _ t in
-    let b = both (ltb s.group n.groups) _ a.1 in
-    let x : s.group < n.groups = ltb-true _ _ b.0 in
-    let y : s.default_event ≤ 15 = leb-true _ _ b.1 in
-    record { cpu = λ q. absurd (omega arith); partition = λ q. absurd (omega arith); group = λ q. omega arith; default = λ q. omega arith }
-small n (Frame x) t = record { cpu = λ q. absurd (omega arith); partition = λ q. absurd (omega arith); group = λ q. absurd (omega arith); default = λ q. absurd (omega arith) }
-small n (Event x) t = record { cpu = λ q. absurd (omega arith); partition = λ q. absurd (omega arith); group = λ q. absurd (omega arith); default = λ q. absurd (omega arith) }
-small n (Trap x) t = record { cpu = λ q. absurd (omega arith); partition = λ q. absurd (omega arith); group = λ q. absurd (omega arith); default = λ q. absurd (omega arith) }
-small n (Target x) t = record { cpu = λ q. absurd (omega arith); partition = λ q. absurd (omega arith); group = λ q. absurd (omega arith); default = λ q. absurd (omega arith) }
-small n (Route x) t = record { cpu = λ q. absurd (omega arith); partition = λ q. absurd (omega arith); group = λ q. absurd (omega arith); default = λ q. absurd (omega arith) }
-small n (End x) t = record { cpu = λ q. absurd (omega arith); partition = λ q. absurd (omega arith); group = λ q. absurd (omega arith); default = λ q. absurd (omega arith) }
+small n r t = search (rules, tests)
 
 -- a byte of the line that a number has
 line_small : (kind k bound : ℕ) → 0 < bound → ((n : Counts) → CountsFit n → (r : Record) → Small n r → kind_of r ≡ kind → get_or (bytes_of r) k 0 < bound)

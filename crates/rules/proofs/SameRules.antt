@@ -4,14 +4,14 @@ use mathlib.Core.Bool.{Bool, true, false, not, ◌&&◌, ◌||◌}
 use mathlib.Core.Path.{◌≡◌, refl, ap, ap₂, sym, ◌∙◌}
 use native.Mathlib.Omega.{arith}
 use lib.Dec.{ltb, leb, eqb}
-use borrow.Author.Tests.{ltb-true, not-true, not-false}
+use borrow.Author.Rules.{rules}
+use borrow.Author.Tests.{ltb-true, not-true, not-false, tests}
 use Rattle.hexline.proofs.Cond.{both}
 use Rattle.records.specs.declared.kind.Counts.{Counts}
 use Rattle.records.specs.declared.kind.EventLine.{EventLine}
 use Rattle.records.specs.declared.kind.Record.{Record}
-use Rattle.records.specs.declared.kind.Record.TheVariants.{Header, Partition, Group, Subject, Frame, Event, Trap, Target, Route, End}
 use Rattle.rules.specs.Said.{Said}
-use Rattle.rules.specs.Rules.{group_in_range, subject_in_range, frame_in_range, event_in_range, trap_in_range, target_in_range, routable, route_in_range, in_range, all_below, all_given, has_group, has_subject, all_used, all_framed, complete, incomplete, frame_misplaced, trap_misplaced, has_target, unknown_subject, wrong_handover, cpu_of_subject, wrong_kick, event_misplaced, misplaced, even, uneven}
+use Rattle.rules.specs.Rules.{group_in_range, subject_in_range, frame_in_range, event_in_range, trap_in_range, target_in_range, route_in_range, in_range, all_below, all_given, has_group, has_subject, all_used, all_framed, complete, incomplete, frame_misplaced, trap_misplaced, has_target, unknown_subject, wrong_handover, cpu_of_subject, wrong_kick, event_misplaced, misplaced, even, uneven}
 use Rattle.rules.proofs.Fine.{CountsFit}
 use Rattle.rules.proofs.Same.{Same}
 use Rattle.rules.proofs.Below.{below_same, any_same}
@@ -73,16 +73,7 @@ module _ (s t : Said) (h : Same s t) (b : Bounded t) where
 
   pub same_incomplete : (lines : ℕ) (r : Record) → incomplete s lines r ≡ incomplete t lines r
   unfolding incomplete complete
-  same_incomplete lines (Header x) = refl
-  same_incomplete lines (Partition x) = refl
-  same_incomplete lines (Group x) = refl
-  same_incomplete lines (Subject x) = refl
-  same_incomplete lines (Frame x) = refl
-  same_incomplete lines (Event x) = refl
-  same_incomplete lines (Trap x) = refl
-  same_incomplete lines (Target x) = refl
-  same_incomplete lines (Route x) = refl
-  same_incomplete lines (End count) = rw (same_given, same_used, same_framed)
+  same_incomplete lines r = search (rules, tests, same_given, same_used, same_framed)
 
   -- ---- 8
 
@@ -97,16 +88,7 @@ module _ (s t : Said) (h : Same s t) (b : Bounded t) where
 
   pub same_uneven : (r : Record) → uneven s r ≡ uneven t r
   unfolding uneven
-  same_uneven (Header x) = refl
-  same_uneven (Partition x) = refl
-  same_uneven (Group x) = refl
-  same_uneven (Subject x) = refl
-  same_uneven (Frame x) = refl
-  same_uneven (Event x) = refl
-  same_uneven (Trap x) = refl
-  same_uneven (Target x) = refl
-  same_uneven (Route x) = refl
-  same_uneven (End count) = ap not same_even
+  same_uneven r = search (rules, tests, same_even)
 
   -- ---- 7
 
@@ -167,35 +149,4 @@ module _ (s t : Said) (h : Same s t) (b : Bounded t) where
 
   pub same_misplaced : (r : Record) → in_range t.counts r ≡ true → misplaced s r ≡ misplaced t r
   unfolding misplaced in_range group_in_range subject_in_range frame_in_range frame_misplaced trap_in_range trap_misplaced target_in_range route_in_range
-  same_misplaced (Header x) r = refl
-  same_misplaced (Partition x) r = refl
-  same_misplaced (Group g) r =
-      let c = b.counts in
-      let x : g.partition < t.counts.partitions = ltb-true _ _ (both (ltb g.number t.counts.groups) _ r).1 in
-      ap not (h.partition_given g.partition (omega arith))
-  same_misplaced (Subject n) r =
-      let c = b.counts in
-      let a = both (ltb n.number t.counts.subjects) _ r in
-      let x : n.group < t.counts.groups = ltb-true _ _ (both (ltb n.group t.counts.groups) _ a.1).0 in
-      ap not (h.group_given n.group (omega arith))
-  same_misplaced (Frame f) r =
-      let c = b.counts in
-      let a = both (ltb f.major t.counts.majors) _ r in
-      let d = both (ltb f.cpu t.counts.cpus) _ a.1 in
-      let x : f.partition < t.counts.partitions = ltb-true _ _ (both (ltb f.partition t.counts.partitions) _ d.1).0 in
-      ap₂ (λ (y : Bool) (z : ℕ). not y || not (eqb z f.cpu)) (h.partition_given f.partition (omega arith)) (h.cpu_of f.partition (omega arith))
-  same_misplaced (Event e) r = same_event e r
-  same_misplaced (Trap n) r =
-      let c = b.counts in
-      let x : n.subject < t.counts.subjects = ltb-true _ _ (both (ltb n.subject t.counts.subjects) _ r).0 in
-      rw (h.subject_given n.subject (omega arith), h.default_of n.subject (omega arith))
-  same_misplaced (Target n) r =
-      let c = b.counts in
-      let x : n.subject < t.counts.subjects = ltb-true _ _ (both (ltb n.subject t.counts.subjects) _ r).0 in
-      ap not (h.subject_given n.subject (omega arith))
-  same_misplaced (Route w) r =
-      let c = b.counts in
-      let a = both (routable w.host) _ r in
-      let x : w.subject < t.counts.subjects = ltb-true _ _ (both (ltb w.subject t.counts.subjects) _ a.1).0 in
-      ap not (h.subject_given w.subject (omega arith))
-  same_misplaced (End count) r = refl
+  same_misplaced r i = search (rules, tests, same_event)

@@ -1,17 +1,16 @@
 -- Lines that were each accepted when they were read stand one behind the other in the table: by the rules on kinds and keys, line by
 -- line.
-use Prim.Native.Nat.{ℕ, ◌+◌, ◌≤◌}
+use Prim.Native.Nat.{ℕ, ◌≤◌}
 use mathlib.Core.Bool.{false}
 use mathlib.Core.List.{List, [], ◌∷◌}
 use mathlib.Core.Path.{◌≡◌, refl, ◌∙◌}
 use native.Mathlib.Omega.{arith}
-use lib.Dec.{ltb}
-use borrow.Author.Tests.{ltb-false, leb-false, ne_eqb, le-ltb, lt-leb}
-use Rattle.hexline.proofs.Cond.{by_cond}
+use borrow.Author.Rules.{rules}
+use borrow.Author.Tests.{ne_eqb, tests}
 use Rattle.records.specs.declared.kind.Record.{Record}
 use Rattle.records.specs.declared.kind.Record.TheVariants.{Header, Partition, Group, Subject, Frame, Event, Trap, Target, Route, End}
 use Rattle.records.specs.Kinds.{kind_of}
-use Rattle.rows.specs.Places.{frames_place, place_of}
+use Rattle.rows.specs.Places.{place_of}
 use Rattle.rows.specs.Lawful.{Fits, Room}
 use Rattle.rows.specs.Lines.{next_in}
 use Rattle.rules.specs.Said.{said_in, last_kind}
@@ -24,34 +23,12 @@ use Rattle.rules.proofs.Frames.{Steady, counted_of, frame_in_order}
 -- a line that is not behind the next place has a place from there on
 room_of : (next : ℕ) (r : Record) → behind next r ≡ false → (kind_of r ≡ 10 → ⊥) → (kind_of r ≡ 1 → next ≡ 0) → Room next r × (next ≤ place_of next r)
 unfolding behind Room kind_of place_of
-room_of next (Header h) b k z = (tt, omega (arith, z refl))
-room_of next (Partition p) b k z = (tt, ltb-false _ _ b)
-room_of next (Group g) b k z = (tt, ltb-false _ _ b)
-room_of next (Subject s) b k z = (tt, ltb-false _ _ b)
-room_of next (Frame f) b k z = (
-  leb-false (frames_place f.major f.cpu + 8) next b,
-  by_cond (λ (place : ℕ). next ≤ place) (ltb (frames_place f.major f.cpu) next) _ _ (λ e. omega arith)
-      (λ e. ltb-false (frames_place f.major f.cpu) next e),
-)
-room_of next (Event v) b k z = (tt, ltb-false _ _ b)
-room_of next (Trap t) b k z = (tt, ltb-false _ _ b)
-room_of next (Target t) b k z = (tt, ltb-false _ _ b)
-room_of next (Route w) b k z = (tt, ltb-false _ _ b)
-room_of next (End j) b k z = absurd (k refl)
+room_of next r b k z = search (rules, tests)
 
 -- the first line is never behind
 first_in_order : (r : Record) → behind 0 r ≡ out_of_order [] r
 unfolding behind out_of_order
-first_in_order (Header h) = refl
-first_in_order (Partition p) = le-ltb (place_of 0 (Partition p)) 0 (omega arith)
-first_in_order (Group g) = le-ltb (place_of 0 (Group g)) 0 (omega arith)
-first_in_order (Subject s) = le-ltb (place_of 0 (Subject s)) 0 (omega arith)
-first_in_order (Frame f) = lt-leb (frames_place f.major f.cpu + 8) 0 (omega arith)
-first_in_order (Event v) = le-ltb (place_of 0 (Event v)) 0 (omega arith)
-first_in_order (Trap t) = le-ltb (place_of 0 (Trap t)) 0 (omega arith)
-first_in_order (Target t) = le-ltb (place_of 0 (Target t)) 0 (omega arith)
-first_in_order (Route w) = le-ltb (place_of 0 (Route w)) 0 (omega arith)
-first_in_order (End k) = refl
+first_in_order r = search (rules, tests)
 
 none_before : (r : Record) → behind (next_in []) r ≡ out_of_order [] r
 unfolding next_in

@@ -14,7 +14,6 @@ use lib.Seq.{set_out}
 use borrow.Author.Tests.{ne_eqb, not-false}
 use Rattle.records.specs.declared.kind.Counts.{Counts}
 use Rattle.records.specs.declared.kind.Record.{Record}
-use Rattle.records.specs.declared.kind.Record.TheVariants.{Header, Partition, Group, Subject, Frame, Event, Trap, Target, Route, End}
 use Rattle.records.specs.Kinds.{kind_of}
 use Rattle.rows.specs.Places.{row_count, place_of}
 use Rattle.rows.specs.Rows.{row_of}
@@ -106,16 +105,7 @@ tied_table table last place count e t = is_table e table t.size t.rows
 
 end_place : (next : ℕ) (r : Record) → kind_of r ≡ 10 → place_of next r ≤ row_count
 unfolding kind_of place_of
-end_place next (Header x) q = absurd (omega arith)
-end_place next (Partition x) q = absurd (omega arith)
-end_place next (Group x) q = absurd (omega arith)
-end_place next (Subject x) q = absurd (omega arith)
-end_place next (Frame x) q = absurd (omega arith)
-end_place next (Event x) q = absurd (omega arith)
-end_place next (Trap x) q = absurd (omega arith)
-end_place next (Target x) q = absurd (omega arith)
-end_place next (Route x) q = absurd (omega arith)
-end_place next (End x) q = omega arith
+end_place next r q = grind arith
 
 -- a line's place is in the table, or right behind it
 pub place_within : (e : List Record) (r : Record) → Fair e → verdict e r ≡ Ok tt → place_of (next_in e) r ≤ row_count

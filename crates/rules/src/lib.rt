@@ -16,6 +16,7 @@ pub use ranges::END;
 pub use refusal::Refusal;
 
 // No code: that a line gets the smallest number, and the bounds that document 01 names, is this function's contract.
+#[tactic(auto, using(crate::proofs::Laws::laws))]
 pub fn lawful()
     ensures { Lawful }
 {}

@@ -1,8 +1,0 @@
--- `event_in_range` meets its contract: the code's tests are those of `event_in_range`, in the same order.
-use mathlib.Core.Path.{refl}
-use Rattle.rules.specs.Rules.{event_in_range}
-use Rattle.rules.proofs.ranges.event_in_range.Goals as goal
-
-pub returns : goal.returns
-unfolding event_in_range
-returns c = refl

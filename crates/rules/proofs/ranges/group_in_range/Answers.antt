@@ -1,8 +1,0 @@
--- `group_in_range` meets its contract: the code's tests are those of `group_in_range`, in the same order.
-use mathlib.Core.Path.{refl}
-use Rattle.rules.specs.Rules.{group_in_range}
-use Rattle.rules.proofs.ranges.group_in_range.Goals as goal
-
-pub returns : goal.returns
-unfolding group_in_range
-returns c = refl

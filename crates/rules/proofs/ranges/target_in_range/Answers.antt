@@ -1,8 +1,0 @@
--- `target_in_range` meets its contract: the code's tests are those of `target_in_range`, in the same order.
-use mathlib.Core.Path.{refl}
-use Rattle.rules.specs.Rules.{target_in_range}
-use Rattle.rules.proofs.ranges.target_in_range.Goals as goal
-
-pub returns : goal.returns
-unfolding target_in_range
-returns c = refl

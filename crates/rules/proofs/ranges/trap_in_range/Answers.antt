@@ -1,8 +1,0 @@
--- `trap_in_range` meets its contract: the code's tests are those of `trap_in_range`, in the same order.
-use mathlib.Core.Path.{refl}
-use Rattle.rules.specs.Rules.{trap_in_range}
-use Rattle.rules.proofs.ranges.trap_in_range.Goals as goal
-
-pub returns : goal.returns
-unfolding trap_in_range
-returns c = refl
