@@ -7,9 +7,9 @@ use mathlib.Core.Path.{◌≡◌, refl, ap, ap₂, sym, ◌∙◌}
 use native.Mathlib.Omega.{arith}
 use lib.Dec.{eqb}
 use lib.ListN.{length, get_or}
-use borrow.Author.Tests.{eq-eqb, ne_eqb}
+use borrow.Author.Rules.{rules}
+use borrow.Author.Tests.{ne_eqb, tests}
 use Rattle.records.specs.declared.kind.Record.{Record}
-use Rattle.records.specs.declared.kind.Record.TheVariants.{Header, Partition, Group, Subject, Frame, Event, Trap, Target, Route, End}
 use Rattle.rows.specs.Places.{row_count, place_of}
 use Rattle.rows.specs.Rows.{row_of, record_at}
 use Rattle.rows.specs.Lawful.{part_end}
@@ -23,7 +23,7 @@ use Rattle.rows.proofs.RowLaws.{back, some}
 -- its own place has its row, every other what was there
 pub row_here : (r : Record) (e : List Record) → row_in (r ∷ e) (place_of (next_in e) r) ≡ row_of r
 unfolding row_in
-row_here r e = rw (eq-eqb (place_of (next_in e) r) (place_of (next_in e) r) refl)
+row_here r e = search (rules, tests)
 
 pub row_other : (r : Record) (e : List Record) (i : ℕ) → (place_of (next_in e) r ≡ i → ⊥) → row_in (r ∷ e) i ≡ row_in e i
 unfolding row_in
@@ -86,16 +86,7 @@ table_length e = length_table row_count 0 (row_in e)
 
 part_within : (r : Record) → part_end r ≤ row_count
 unfolding part_end
-part_within (Header n) = omega arith
-part_within (Partition p) = omega arith
-part_within (Group g) = omega arith
-part_within (Subject s) = omega arith
-part_within (Frame f) = omega arith
-part_within (Event e) = omega arith
-part_within (Trap t) = omega arith
-part_within (Target t) = omega arith
-part_within (Route w) = omega arith
-part_within (End k) = omega arith
+part_within r = search (rules, tests)
 
 -- a placed line's place is in the table
 pub within : (e : List Record) → Placed e → next_in e ≤ row_count

@@ -1,15 +1,12 @@
 -- Places: a line's place lies in the part of the table that its kind has, and only a minor frame's depends on the line before it.
 -- What stands in a part is a line of its kind: by the tests of `record_at`, which ask for the parts in their order.
 use Prim.Native.Nat.{ℕ, ◌+◌, ◌-◌, ◌≤◌, ◌<◌}
-use mathlib.Core.Path.{◌≡◌, refl}
-use native.Mathlib.Omega.{arith}
-use lib.Dec.{ltb}
+use mathlib.Core.Path.{◌≡◌}
 use borrow.Author.Rules.{rules}
-use borrow.Author.Tests.{ltb-true, lt-ltb, le-ltb, tests}
-use Rattle.hexline.proofs.Cond.{by_cond}
+use borrow.Author.Tests.{tests}
 use Rattle.records.specs.declared.kind.FrameLine.{FrameLine}
 use Rattle.records.specs.declared.kind.Record.{Record}
-use Rattle.records.specs.declared.kind.Record.TheVariants.{Header, Partition, Group, Subject, Frame, Event, Trap, Target, Route, End}
+use Rattle.records.specs.declared.kind.Record.TheVariants.{Header, Partition, Group, Subject, Frame, Event, Trap, Target, Route}
 use Rattle.rows.specs.Places.{partitions_start, groups_start, subjects_start, frames_start, events_start, traps_start, targets_start, routes_start, row_count, frames_place, place_of}
 use Rattle.rows.specs.Rows.{counts_in, partition_at, group_at, subject_at, frame_at, event_at, trap_at, target_at, route_at, record_at}
 use Rattle.rows.specs.Lawful.{Fits, Room, part_start, part_end}
@@ -19,68 +16,37 @@ use Rattle.rows.specs.Lawful.{Fits, Room, part_start, part_end}
 -- the first of its major and CPU
 pub place_frame_first : (next : ℕ) (f : FrameLine) → next ≤ frames_place f.major f.cpu → place_of next (Frame f) ≡ frames_place f.major f.cpu
 unfolding place_of
-place_frame_first next f h = rw (le-ltb (frames_place f.major f.cpu) next h)
+place_frame_first next f h = search (rules, tests)
 
 -- one that follows another
 pub place_frame_next : (next : ℕ) (f : FrameLine) → frames_place f.major f.cpu < next → place_of next (Frame f) ≡ next
 unfolding place_of
-place_frame_next next f h = rw (lt-ltb (frames_place f.major f.cpu) next h)
+place_frame_next next f h = search (rules, tests)
 
 -- it is one of the eight of its major and CPU
 pub place_frame_from : (next : ℕ) (f : FrameLine) → frames_place f.major f.cpu ≤ place_of next (Frame f)
 unfolding place_of
-place_frame_from next f =
-    by_cond (λ (place : ℕ). frames_place f.major f.cpu ≤ place) (ltb (frames_place f.major f.cpu) next) _ _
-    (λ e. omega (arith, ltb-true (frames_place f.major f.cpu) next e)) (λ e. omega arith)
+place_frame_from next f = search (rules, tests)
 
 pub place_frame_below : (next : ℕ) (f : FrameLine) → next < frames_place f.major f.cpu + 8 → place_of next (Frame f) < frames_place f.major f.cpu + 8
 unfolding place_of
-place_frame_below next f h =
-    by_cond (λ (place : ℕ). place < frames_place f.major f.cpu + 8) (ltb (frames_place f.major f.cpu) next) _ _
-    (λ e. h) (λ e. omega arith)
+place_frame_below next f h = search (rules, tests)
 
 -- ---- no other line's place depends on the line before it
 
 pub place_next : (next other : ℕ) (r : Record) → ((f : FrameLine) → r ≡ Frame f → ⊥) → place_of next r ≡ place_of other r
 unfolding place_of
-place_next next other (Header n) h = refl
-place_next next other (Partition p) h = refl
-place_next next other (Group g) h = refl
-place_next next other (Subject s) h = refl
-place_next next other (Frame f) h = absurd (h f refl)
-place_next next other (Event e) h = refl
-place_next next other (Trap t) h = refl
-place_next next other (Target t) h = refl
-place_next next other (Route w) h = refl
-place_next next other (End k) h = refl
+place_next next other r h = search (rules, tests)
 
 -- ---- a place lies in its kind's part
 
 pub from : (next : ℕ) (r : Record) → part_start r ≤ place_of next r
 unfolding part_start place_of frames_place
-from next (Header n) = omega arith
-from next (Partition p) = omega arith
-from next (Group g) = omega arith
-from next (Subject s) = omega arith
-from next (Frame f) = omega (arith, place_frame_from next f)
-from next (Event e) = omega arith
-from next (Trap t) = omega arith
-from next (Target t) = omega arith
-from next (Route w) = omega arith
-from next (End k) = omega arith
+from next r = search (rules, tests, place_frame_from)
 
 pub below : (next : ℕ) (r : Record) → Fits r → Room next r → place_of next r < part_end r
 unfolding part_end place_of frames_place Fits Room
-below next (Header n) h m = omega arith
-below next (Partition p) h m = omega arith
-below next (Group g) h m = omega arith
-below next (Subject s) h m = omega arith
-below next (Frame f) h m = omega (arith, place_frame_below next f m)
-below next (Event e) h m = omega arith
-below next (Trap t) h m = omega arith
-below next (Target t) h m = omega arith
-below next (Route w) h m = omega arith
-below next (End k) h m = absurd h
+below next r h m = search (rules, tests, place_frame_below)
 
 -- ---- what stands in a part
 

@@ -15,16 +15,7 @@ use Rattle.rows.proofs.PlaceLaws.{place_frame_from, place_frame_below, header_th
 -- a row has a 1 above its bytes
 pub some : (r : Record) → Fits r → (0 < row_of r) × (row_of r < 18446744073709551616)
 unfolding Fits row_of
-some (Header n) h = (omega arith, omega arith)
-some (Partition p) h = (omega arith, omega arith)
-some (Group g) h = (omega arith, omega arith)
-some (Subject s) h = (omega arith, omega arith)
-some (Frame f) h = (omega arith, omega arith)
-some (Event e) h = (omega arith, omega arith)
-some (Trap t) h = (omega arith, omega arith)
-some (Target t) h = (omega arith, omega arith)
-some (Route w) h = (omega arith, omega arith)
-some (End k) h = absurd h
+some r h = search (rules, tests)
 
 -- a number's last byte
 last_byte : {number : ℕ} (above : ℕ) {byte : ℕ} → number ≡ above * 256 + byte → byte < 256 → number % 256 ≡ byte

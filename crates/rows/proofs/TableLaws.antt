@@ -9,16 +9,13 @@ use native.Mathlib.Nat.{add-zero}
 use lib.Dec.{eqb}
 use lib.ListN.{length, get_or, set, replicate}
 use lib.Seq.{get_or-set_same, get_or-set_other}
-use borrow.Author.Tests.{eqb-true, eqb-false}
-use Rattle.hexline.proofs.Cond.{by_cond}
+use borrow.Author.Rules.{rules}
+use borrow.Author.Tests.{tests}
 use Rattle.rows.specs.Table.{table}
 
 -- one row is written, the others stay
 pub get_set : (rows : List ℕ) (place row i : ℕ) → place < length rows → get_or (set rows place row) i 0 ≡ cond (eqb place i) row (get_or rows i 0)
-get_set rows place row i h =
-    by_cond (λ (x : ℕ). get_or (set rows place row) i 0 ≡ x) (eqb place i) _ _
-    (λ e. ap (λ (k : ℕ). get_or (set rows place row) k 0) (sym (eqb-true place i e)) ∙ get_or-set_same rows place row 0 h)
-    (λ e. get_or-set_other rows place i row 0 (λ q. eqb-false place i e (sym q)))
+get_set rows place row i h = search (rules, tests, get_or-set_same, get_or-set_other)
 
 -- the empty table has no row
 pub zeros : (size i : ℕ) → get_or {A = ℕ} (replicate size 0) i 0 ≡ 0
