@@ -1,119 +1,108 @@
--- Laws in the code's form: the search for the lowest number, the filling of an array, the search round the groups, and the taking of a
--- vector, each as one turn of a loop, one call or one branch takes it on. Each holds by unrolling its definition once; `filled_more` by
--- induction on the places that are filled.
-use Rattle.std.specs.Prelude.{Option, Some, None}
+-- Laws in the code's form: what `any` and `find` over the numbers below a bound answer, and what `from_fn` lays, in the definitions'
+-- words. Each goes by induction on how many numbers are left.
+use Prim.Native.Nat.{ℕ, zero, suc, ◌+◌, ◌-◌, ◌<◌}
+use mathlib.Core.Bool.{Bool, true, false, cond, ◌||◌}
+use mathlib.Core.List.{List, ◌∷◌, map}
 use mathlib.Core.Path.{◌≡◌, refl, sym, ap, ◌∙◌}
-use mathlib.Core.Bool.{Bool, true, false, cond}
-use mathlib.Core.List.{List, ◌∷◌, ◌++◌, append-nil}
-use Prim.Native.Nat.{ℕ, zero, suc, ◌+◌, ◌-◌, ◌≤◌, ◌<◌}
-use native.Mathlib.Omega.{arith}
+use native.Mathlib.Nat.{add-zero, zero-add}
 use native.Mathlib.Numerals.{add-one, sub-one}
-use lib.ListN.{set, replicate}
-use Rattle.records.specs.declared.kind.Counts.{Counts}
-use Rattle.bits.specs.Sets.{highest256}
-use Rattle.programs.specs.declared.subject.Subject.{Subject}
-use Rattle.programs.specs.Entering.{vector_taken, vector_taken_at}
-use Rattle.programs.specs.Fresh.{lowest_from, list_from}
-use Rattle.programs.specs.declared.whole.Programs.{Programs}
+use native.Mathlib.Omega.{arith}
+use lib.Dec.{eqb}
+use borrow.Author.Tests.{ne_eqb}
+use lib.ListN.{length, drop}
+use denote.Param.Members.{Mut}
+use denote.Ref.{Bor}
+use Rattle.std.proofs.Common.{Option, Some, None, drop-cons}
+use Rattle.std.proofs.Math.Bool.{or-false, or_assoc}
+use Rattle.std.proofs.iter.Yields.{nat_range_steps}
+use Rattle.std.proofs.lemmas.Iterator.{YieldsList-from_range}
+use Rattle.std.proofs.lemmas.Iterator.Adapters.{option_map_id}
+use Rattle.std.proofs.lemmas.Iterator.Search.{any_from_yields_List, find_from_yields_List}
+use Rattle.std.proofs.lemmas.List.{drop_all}
+use Rattle.std.specs.declared.ops.Range.{Range}
+use Rattle.std.specs.Array.{IsFromFnResult, IsFromFnResultFrom}
+use Rattle.std.specs.Bool.{⊤}
+use Rattle.std.specs.Fn.{Called, CalledAt}
+use Rattle.std.specs.Iterator.{YieldsThen}
+use Rattle.std.specs.List.{FoldsTo, list_any, find, range_with_len}
+use Rattle.std.specs.Option.{MatchOption, unwrap_or}
 use Rattle.rows.specs.Lookups.{counts_of}
+use Rattle.rules.specs.Rules.{any_below}
+use Rattle.programs.specs.declared.whole.Programs.{Programs}
+use Rattle.programs.specs.Fresh.{lowest_from}
 use Rattle.programs.specs.Round.{after, may_run, next_awake}
 
--- ---- the lowest number that passes a test: before each turn, the search from here on finds what the whole search finds
+-- ---- any
 
-pub lowest_start : (test : ℕ → Bool) (count : ℕ) → lowest_from test 0 (count - 0) ≡ lowest_from test 0 count
-lowest_start test count = let e : count - 0 ≡ count = omega arith in rw e
+-- the last of the numbers tested last
+any_last : (test : ℕ → Bool) (a n : ℕ)
+    → list_any test (range_with_len a (suc n)) ≡ list_any test (range_with_len a n) || test (a + n)
+any_last test a zero = rw add-zero (or-false (test a))
+any_last test a (suc n) = rw (any_last test (a + 1) n) (let e : a + 1 + n ≡ a + suc n = omega arith in rw (e, or_assoc))
 
--- this one passes
-pub lowest_hit :
-    (test : ℕ → Bool) (count i : ℕ) → lowest_from test i (count - i) ≡ lowest_from test 0 count → i < count → test i ≡ true →
-    i ≡ lowest_from test 0 count
+any_range : (test : ℕ → Bool) (n : ℕ) → list_any test (range_with_len 0 n) ≡ any_below n test
+unfolding any_below
+any_range test zero = refl
+any_range test (suc n) = any_last test 0 n ∙ rw (any_range test n, zero-add) refl
+
+-- ---- find
+
+lowest_range : (test : ℕ → Bool) (a n : ℕ) → unwrap_or (find test (range_with_len a n)) 0 ≡ lowest_from test a n
 unfolding lowest_from
-lowest_hit test count i inv l e =
-    let s : count - i ≡ suc (count - (i + 1)) = omega arith in
-    let here : lowest_from test i (count - i) ≡ i = rw (s, e) in
-    sym here ∙ inv
+lowest_range test a zero = refl
+lowest_range test a (suc n) = rw (← lowest_range test (a + 1) n) (by_test _ (test a))
+  where
+    by_test : (o : Option ℕ) (b : Bool) → unwrap_or (cond b (Some a) o) 0 ≡ cond b a (unwrap_or o 0)
+    by_test o true = refl
+    by_test o false = refl
 
--- it does not
-pub lowest_pass :
-    (test : ℕ → Bool) (count i : ℕ) → lowest_from test i (count - i) ≡ lowest_from test 0 count → i < count → test i ≡ false →
-    lowest_from test (i + 1) (count - (i + 1)) ≡ lowest_from test 0 count
-unfolding lowest_from
-lowest_pass test count i inv l e =
-    let s : count - i ≡ suc (count - (i + 1)) = omega arith in
-    let next : lowest_from test i (count - i) ≡ lowest_from test (i + 1) (count - (i + 1)) = rw (s, e) in
-    sym next ∙ inv
+-- ---- by the clauses of the calls
 
--- none is left
-pub lowest_none :
-    (test : ℕ → Bool) (count i : ℕ) → lowest_from test i (count - i) ≡ lowest_from test 0 count → count ≤ i →
-    0 ≡ lowest_from test 0 count
-unfolding lowest_from
-lowest_none test count i inv l =
-    let s : count - i ≡ 0 = omega arith in
-    let past : lowest_from test i (count - i) ≡ 0 = rw s in
-    sym past ∙ inv
+-- what `(0..n).any(f)` answers
+pub ranged_any : {F : Type 0} {g : Mut F (ℕ × Unit {0}) Bool} {n : ℕ} {u : Range ℕ} {f : F} {r : Bool} {test : ℕ → Bool}
+    → (xs : List ℕ) × (o : Option ℕ) × (j : F) × YieldsThen nat_range_steps (record { start = 0; end = n }) xs o u
+    × FoldsTo (λ p x q. Called g p (x, tt) false q) f xs j
+    × MatchOption o (r ≡ false) (λ x. (r ≡ true) × ((h : F) × Called g j (x, tt) true h))
+    → ((x : ℕ) (b : Bool) (q : F) → Called g f (x, tt) b q → (q ≡ f) × (b ≡ test x)) → r ≡ any_below n test
+ranged_any {F} {g} {n} {u} {f} {r} {test} ran computes =
+    any_from_yields_List test u f r ran (YieldsList-from_range 0 n n refl (omega arith)) computes ∙ any_range test n
 
--- ---- an array filled from the front: what is filled so far, then what it was made with
+-- what `(0..n).find(f).unwrap_or(0)` answers
+pub ranged_lowest : {F : Type 0} {g : Mut F (Bor ℕ × Unit {0}) Bool} {n : ℕ} {f : F} {test : ℕ → Bool} (u : Range ℕ) (r : Option ℕ)
+    → (xs : List ℕ) × (j : F) × YieldsThen nat_range_steps (record { start = 0; end = n }) xs r u
+    × FoldsTo (λ p x q. CalledAt g p x false q) f xs j × MatchOption r ⊤ (λ x. (h : F) × CalledAt g j x true h)
+    → ((x : ℕ) (b : Bool) (q : F) → CalledAt g f x b q → (q ≡ f) × (b ≡ test x)) → unwrap_or r 0 ≡ lowest_from test 0 n
+ranged_lowest {F} {g} {n} {f} {test} u r ran computes =
+    let e = sym (option_map_id r) ∙ find_from_yields_List test u f r ran (YieldsList-from_range 0 n n refl (omega arith)) computes in
+    ap (λ o. unwrap_or o 0) e ∙ lowest_range test 0 n
 
-unfoldable pub filled : {A : Type 0} → (ℕ → A) → A → ℕ → ℕ → List A
-filled item none i count = list_from item 0 i ++ replicate (count - i) none
+-- ---- from_fn
 
-pub filled_none : {A : Type 0} (item : ℕ → A) (none : A) (count : ℕ) → replicate count none ≡ filled item none 0 count
-unfolding filled list_from
-filled_none item none count = let e : count - 0 ≡ count = omega arith in rw e
+-- each item by its number
+laid_from : {F B : Type 0} {g : Mut F (ℕ × Unit {0}) B} (f : F) (ys : List B) (item : ℕ → B) (i n : ℕ)
+    → length ys ≡ i + n → IsFromFnResultFrom g f ys i n
+    → ((x : ℕ) (y : B) (q : F) → x < i + n → Called g f (x, tt) y q → (q ≡ f) × (y ≡ item x))
+    → drop i ys ≡ map item (range_with_len i n)
+laid_from f ys item i zero long each computes = drop_all i ys (omega arith)
+laid_from {F} {B} {g} f ys item i (suc n) long (q, y, here, call, rest) computes =
+    let r = computes i y q (omega arith) call in
+    let l : length ys ≡ i + 1 + n = omega arith in
+    let m = laid_from f ys item (i + 1) n l (rw r.0 at rest) (λ x z p h k. computes x z p (omega arith) k) in
+    drop-cons ys i y (omega arith) ∙ rw (here.0, r.1) (ap (λ l. item i ∷ l) (rw (← add-one i) m))
 
-fill_next :
-    {A : Type 0} (item : ℕ → A) (none : A) (from i rest : ℕ) →
-    set (list_from item from i ++ replicate (suc rest) none) i (item (from + i)) ≡ list_from item from (suc i) ++ replicate rest none
-unfolding list_from
-fill_next item none from zero rest = let e : from + 0 ≡ from = omega arith in rw e
-fill_next item none from (suc i) rest =
-    let e : from + suc i ≡ from + 1 + i = omega arith in
-    rw e (ap (λ l. item from ∷ l) (fill_next item none (from + 1) i rest))
-
--- one more
-pub filled_more :
-    {A : Type 0} (item : ℕ → A) (none : A) (i count : ℕ) (l : List A) (x : A) → i < count → l ≡ filled item none i count → x ≡ item i →
-    set l i x ≡ filled item none (i + 1) count
-unfolding filled
-filled_more item none i count l x h e f =
-    let s : count - i ≡ suc (count - (i + 1)) = omega arith in
-    let z : 0 + i ≡ i = omega arith in
-    rw (e, f, s, add-one i) (rw z at (fill_next item none 0 i (count - suc i)))
-
--- all
-pub filled_all :
-    {A : Type 0} (item : ℕ → A) (none : A) (i count : ℕ) (l : List A) → i ≡ count → l ≡ filled item none i count →
-    l ≡ list_from item 0 count
-unfolding filled
-filled_all item none i count l e f = let s : count - count ≡ 0 = omega arith in f ∙ rw (e, s) (append-nil _)
+-- what `from_fn(f)` lays
+pub laid : {F B : Type 0} {g : Mut F (ℕ × Unit {0}) B} {f : F} {ys : List B} {n : ℕ} (item : ℕ → B) → IsFromFnResult g f ys n
+    → ((x : ℕ) (y : B) (q : F) → x < n → Called g f (x, tt) y q → (q ≡ f) × (y ≡ item x)) → ys ≡ map item (range_with_len 0 n)
+laid {F} {B} {g} {f} {ys} {n} item made computes =
+    let l : length ys ≡ 0 + n = omega (arith, made.long) in
+    laid_from f ys item 0 n l made.each (λ x y q h k. computes x y q (omega arith) k)
 
 -- ---- the next awake group: none where none is left to look at, else the next one or the search from there
 
-pub next_none : (rows : List ℕ) (s : Programs) (partition left group : ℕ) → left ≡ 0 → next_awake rows s partition left group ≡ None
+pub next_left : (rows : List ℕ) (s : Programs) (partition left group : ℕ) → next_awake rows s partition left group
+    ≡ cond (eqb left 0) None
+    (let next = after (counts_of rows).groups group in
+    cond (may_run rows s partition next) (Some next) (next_awake rows s partition (left - 1) next))
 unfolding next_awake
-next_none rows s partition zero group e = refl
-next_none rows s partition (suc left) group e = absurd (omega arith)
-
-pub next_more :
-    (rows : List ℕ) (s : Programs) (partition left group next : ℕ) (counts : Counts) → (left ≡ 0 → ⊥) → counts ≡ counts_of rows →
-    next ≡ after counts.groups group →
-    next_awake rows s partition left group ≡ cond (may_run rows s partition next) (Some next) (next_awake rows s partition (left - 1) next)
-unfolding next_awake
-next_more rows s partition zero group next counts h n e = absurd (h refl)
-next_more rows s partition (suc left) group next counts h n e = rw (sub-one, e, n)
-
--- ---- a vector is taken of a subject that is open, and of no other
-
-cond_by : {A : Type 0} (t b : Bool) (x y : A) → t ≡ b → cond b x y ≡ cond t x y
-cond_by t b x y e = rw e
-
-pub taken_closed : (x : Subject) → x.«open» ≡ false → record { subject = x; vector = None } ≡ vector_taken x
-unfolding vector_taken
-taken_closed x e = cond_by x.«open» false (vector_taken_at x (highest256 x.vectors)) (record { subject = x; vector = None }) e
-
-pub taken_open : (x : Subject) (v : Option ℕ) → x.«open» ≡ true → v ≡ highest256 x.vectors → vector_taken_at x v ≡ vector_taken x
-unfolding vector_taken
-taken_open x v e f =
-    ap (vector_taken_at x) f
-    ∙ cond_by x.«open» true (vector_taken_at x (highest256 x.vectors)) (record { subject = x; vector = None }) e
+next_left rows s partition zero group = refl
+next_left rows s partition (suc left) group = rw (ne_eqb (suc left) 0 (λ e. absurd (omega arith)), sub-one)

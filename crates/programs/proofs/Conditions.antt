@@ -1,13 +1,13 @@
 -- The laws of `specs/Lawful.antt`, put together. Here itself: each step keeps the number of partitions, groups and subjects, since a store
 -- keeps the length of a list.
-use Prim.Native.Nat.{ℕ, zero, suc, ◌+◌}
+use Prim.Native.Nat.{ℕ}
 use mathlib.Core.List.{List}
-use mathlib.Core.Path.{◌≡◌, refl, ap}
-use lib.ListN.{length}
+use mathlib.Core.Path.{refl}
+use Rattle.std.proofs.lemmas.List.FromFn.{length-map-range_with_len}
 use Rattle.meaning.specs.Lookups.{route_of}
 use Rattle.programs.specs.Formed.{Formed}
 use Rattle.programs.specs.Signals.{interrupted}
-use Rattle.programs.specs.Fresh.{list_from, lowest_group, fresh_actives, fresh_group, fresh_groups, fresh_programs, zero_programs}
+use Rattle.programs.specs.Fresh.{lowest_group, fresh_actives, fresh_group, fresh_groups, fresh_programs, zero_programs}
 use Rattle.programs.specs.Lawful.{FormedKept, Lawful}
 use Rattle.programs.proofs.PartLaws.{active_formed, subject_formed}
 use Rattle.programs.proofs.RoutedLaws.{routed_formed, routed_exactly}
@@ -18,14 +18,9 @@ use Rattle.programs.proofs.StillLaws.{no_switch, elsewhere_still}
 use Rattle.programs.proofs.RoundLaws.{rounds}
 use Rattle.programs.proofs.RangeLaws.{sound}
 
-list_long : {A : Type 0} (item : ℕ → A) (n from : ℕ) → length (list_from item from n) ≡ n
-unfolding list_from
-list_long item zero from = refl
-list_long item (suc n) from = ap suc (list_long item n (from + 1))
-
 fresh_formed : (rows : List ℕ) → Formed (fresh_programs rows)
 unfolding fresh_programs fresh_actives fresh_groups
-fresh_formed rows = record { actives = list_long (lowest_group rows) 8 0; groups = list_long (fresh_group rows) 16 0; subjects = refl }
+fresh_formed rows = record { actives = length-map-range_with_len (lowest_group rows) 0 8; groups = length-map-range_with_len (fresh_group rows) 0 16; subjects = refl }
 
 zero_formed : Formed zero_programs
 unfolding zero_programs

@@ -6,6 +6,7 @@ use mathlib.Core.Bool.{Bool, true, false, not, cond, ◌&&◌, true≢false}
 use mathlib.Core.List.{List}
 use mathlib.Core.Path.{◌≡◌, refl, ap, sym, subst, ◌∙◌}
 use native.Mathlib.Omega.{arith}
+use Rattle.std.proofs.lemmas.Option.{none-some}
 use lib.Dec.{eqb}
 use Rattle.bits.specs.declared.one_word.Bits64.{Bits64}
 use Rattle.bits.specs.Members.{NoneBelow, Top}
@@ -40,11 +41,8 @@ record Injected (x : Subject) (i : Injection) : Type 0 where
   highest : (v : ℕ) → x.«open» ≡ true → Top (has256 x.vectors) 256 v → i.vector ≡ Some v
   vectors : VectorTaken (has256 x.vectors) i.subject i.vector
 
-apart : (v : ℕ) → None ≡ Some v → ⊥
-apart v e = let z : ◌≡◌ {A = ℕ} 0 1 = cc in omega arith
-
 kept_vectors : (x : Subject) → VectorTaken (has256 x.vectors) x None
-kept_vectors x = record { none = λ e u. refl; one = λ v e. absurd (apart v e) }
+kept_vectors x = record { none = λ e u. refl; one = λ v e. absurd (none-some v e) }
 
 module _ (x : Subject) where
   taken_at : (h : Option ℕ) → x.«open» ≡ true → highest256 x.vectors ≡ h → Injected x (vector_taken_at x h)
@@ -64,7 +62,7 @@ module _ (x : Subject) where
     none_pending = λ q. sym e ∙ none_highest four_words x.vectors q;
     highest = λ v q t. sym e ∙ top_highest four_words x.vectors t;
     vectors = record {
-      none = λ q. absurd (apart w (sym q));
+      none = λ q. absurd (none-some w (sym q));
       one = λ v q u. let z : w ≡ v = cc in four_words.clear_has x.vectors w u ∙ rw z;
     };
   }

@@ -1,5 +1,5 @@
 -- The fresh programs (`Fresh` of `specs/Sound.antt`). The lowest number that passes a test is met first by a walk up; a policy has a
--- group of each partition and a subject of each group (`Facts`), so there is one; a list laid place by place has each at its place.
+-- group of each partition and a subject of each group (`Facts`), so there is one.
 -- Assumes nothing.
 use Prim.Native.Nat.{ℕ, zero, suc, ◌+◌, ◌≤◌, ◌<◌}
 use mathlib.Core.Bool.{Bool, true, false, cond, true≢false}
@@ -11,6 +11,7 @@ use native.Mathlib.Decide.{ℕ_discrete}
 use lib.Dec.{eqb}
 use lib.ListN.{get_or, replicate}
 use borrow.Author.Tests.{eq-eqb}
+use Rattle.std.proofs.lemmas.List.FromFn.{get_or-map-range_with_len}
 use Rattle.bits.specs.Sets.{has64}
 use Rattle.bits.proofs.Sets.{one_word, four_words}
 use Rattle.rows.specs.Lookups.{counts_of, partition_of, group_of}
@@ -19,7 +20,7 @@ use Rattle.programs.specs.declared.group.Group.{Group}
 use Rattle.programs.specs.declared.subject.Subject.{Subject}
 use Rattle.programs.specs.Records.{fresh_subject}
 use Rattle.programs.specs.Parts.{no_group, group_at, subject_at, active_group, active_subject}
-use Rattle.programs.specs.Fresh.{lowest_from, list_from, lowest_group, lowest_subject, fresh_actives, fresh_group, fresh_groups, fresh_programs}
+use Rattle.programs.specs.Fresh.{lowest_from, lowest_group, lowest_subject, fresh_actives, fresh_group, fresh_groups, fresh_programs}
 use Rattle.programs.specs.Exactly.{Pending}
 use Rattle.programs.specs.Sound.{Lowest, Fresh}
 
@@ -63,17 +64,8 @@ lowest test count k l e =
     let r = lowest_from_lem test 0 count k (omega arith) (omega arith) e in
     record { below = omega (arith, r.below); passes = r.passes; first = λ j m. r.first j (omega arith) m }
 
--- ---- a list laid place by place
+-- ---- a list of one item, read with that item where it ends
 
-pub laid_at : {A : Type 0} (item : ℕ → A) (from left i : ℕ) (d : A) → i < left → get_or (list_from item from left) i d ≡ item (from + i)
-unfolding list_from
-laid_at item from zero i d l = absurd (omega arith)
-laid_at item from (suc left) zero d l = let e : from ≡ from + 0 = omega arith in ap item e
-laid_at item from (suc left) (suc i) d l =
-    let e : from + 1 + i ≡ from + suc i = omega arith in
-    laid_at item (from + 1) left i d (omega arith) ∙ ap item e
-
--- a list of one item, read with that item where it ends
 all_same : {A : Type 0} (n i : ℕ) (a : A) → get_or (replicate n a) i a ≡ a
 all_same zero i a = refl
 all_same (suc n) zero a = refl
@@ -93,11 +85,11 @@ fresh_subject_lem rows x = all_same 16 x fresh_subject
 module _ (rows : List ℕ) (f : Facts rows) where
   active_is : (q : ℕ) → q < 8 → active_group (fresh_programs rows) q ≡ lowest_group rows q
   unfolding active_group fresh_programs fresh_actives
-  active_is q l = laid_at (lowest_group rows) 0 8 q 0 l ∙ ap (lowest_group rows) (omega arith)
+  active_is q l = get_or-map-range_with_len (lowest_group rows) 0 8 q q 0 l (omega arith)
 
   group_is : (g : ℕ) → g < 16 → group_at (fresh_programs rows) g ≡ fresh_group rows g
   unfolding group_at fresh_programs fresh_groups
-  group_is g l = laid_at (fresh_group rows) 0 16 g no_group l ∙ ap (fresh_group rows) (omega arith)
+  group_is g l = get_or-map-range_with_len (fresh_group rows) 0 16 g g no_group l (omega arith)
 
   front_is : (g : ℕ) → g < 16 → active_subject (fresh_programs rows) g ≡ lowest_subject rows g
   unfolding active_subject fresh_group

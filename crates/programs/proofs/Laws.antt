@@ -1,15 +1,10 @@
--- Laws of arrays that the proofs of this crate's functions cite: the length of an array of structs, and reads and stores at its places
--- and past its end. Assumes nothing.
-use mathlib.Core.Path.{◌≡◌, refl, sym, ◌∙◌}
-use mathlib.Core.List.{List, [], ◌∷◌, map}
+-- Laws of arrays: reads and stores at a place and past the end. Assumes nothing.
+use mathlib.Core.Path.{◌≡◌, refl, sym}
+use mathlib.Core.List.{List, [], ◌∷◌}
 use Prim.Native.Nat.{ℕ, zero, suc, ◌≤◌, ◌<◌}
 use native.Mathlib.Omega.{arith}
-use lib.ListN.{get_or, set, length, length-map, get_or-eq_default}
+use lib.ListN.{get_or, set, length, get_or-eq_default}
 use lib.Seq.{set_out}
-
--- the length of an array of structs, from what owning it tells
-pub length_mapped : (X Y : Type 0) (f : X → Y) (l : List X) (n : ℕ) → length (map f l) ≡ n → length l ≡ n
-length_mapped X Y f l n e = sym (length-map l f) ∙ e
 
 -- a read past the end, and a store there
 pub read_out : {X : Type 0} (l : List X) (i n : ℕ) (d : X) → length l ≡ n → n ≤ i → d ≡ get_or l i d

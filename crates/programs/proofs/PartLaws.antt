@@ -115,10 +115,6 @@ module _ (s : Programs) (subject : ℕ) (x : Subject) where
 -- ---- an active group stored
 
 module _ (s : Programs) (partition group : ℕ) where
-  pub active_stored : (k : ℕ) → Formed s → partition < 8 → active_group (with_active s partition group) k ≡ cond (eqb k partition) group (active_group s k)
-  unfolding active_group with_active
-  active_stored k f l = read_stored s.actives 8 partition k group 0 f.actives l
-
   pub active_same : Formed s → partition < 8 → active_group (with_active s partition group) partition ≡ group
   unfolding active_group with_active
   active_same f l = get_or-set_same s.actives partition group 0 (rw f.actives l)

@@ -1,7 +1,7 @@
 -- What the test of sleep says: a subject has an event or vector pending exactly where one of its sets has a number (`bits`), and a group
 -- exactly where a subject of it has; the search below the count of subjects finds it (`any_stop`, `any_at`).
 use Prim.Native.Nat.{ℕ}
-use mathlib.Core.Bool.{Bool, true, false, not, ◌||◌, true≢false}
+use mathlib.Core.Bool.{Bool, true, false, not, true≢false, or-true}
 use mathlib.Core.List.{List}
 use mathlib.Core.Logic.{◌⊎◌, inl, inr}
 use mathlib.Core.Path.{◌≡◌, refl, ap, sym, ◌∙◌}
@@ -31,10 +31,6 @@ pub pending_tested : (x : Subject) → Pending x → has_pending x ≡ true
 unfolding has_pending
 pending_tested x (inl e) = rw (has_empty one_word x.events e.0 e.1)
 pending_tested x (inr u) = rw (has_empty four_words x.vectors u.0 u.1) (or-true (not (empty64 x.events)))
-  where
-    or-true : (a : Bool) → (a || true) ≡ true
-    or-true true = refl
-    or-true false = refl
 
 pub tested_pending : (x : Subject) → has_pending x ≡ true → Pending x
 unfolding has_pending

@@ -7,6 +7,7 @@ use mathlib.Core.Bool.{Bool, true, false, cond, true≢false}
 use mathlib.Core.List.{List}
 use mathlib.Core.Path.{◌≡◌, refl, sym, ap, subst, ◌∙◌}
 use native.Mathlib.Omega.{arith}
+use Rattle.std.proofs.lemmas.Option.{none-some}
 use native.Mathlib.Decide.{dec_lt}
 use lib.Dec.{ltb, eqb}
 use borrow.Author.Tests.{lt-ltb, le-ltb, ltb-true, eq-eqb, eqb-true}
@@ -64,12 +65,9 @@ module _ (rows : List ℕ) (s : Programs) (q : ℕ) where
   abbrev groups : ℕ
   groups = (counts_of rows).groups
 
-  found_some : (h : ℕ) → None ≡ Some h → ⊥
-  found_some h e = let z : ◌≡◌ {A = ℕ} 0 1 = cc in omega arith
-
   pub found : (n g h : ℕ) → next_awake rows s q n g ≡ Some h → Next rows s q n g h
   unfolding next_awake onward
-  found zero g h e = absurd (found_some h e)
+  found zero g h e = absurd (none-some h e)
   found (suc n) g h e = go (may_run rows s q (after groups g)) refl e (found n (after groups g) h)
     where
       go : (b : Bool) → may_run rows s q (after groups g) ≡ b
@@ -112,14 +110,14 @@ module _ (rows : List ℕ) (s : Programs) (q : ℕ) where
           → (next_awake rows s q n (after groups g) ≡ None
           → (j : ℕ) → 1 ≤ j → j ≤ n → may_run rows s q (onward groups j (after groups g)) ≡ false)
           → (j : ℕ) → 1 ≤ j → j ≤ suc n → may_run rows s q (onward groups j g) ≡ false
-      go true u m ih j a b = absurd (found_some (after groups g) (sym m))
+      go true u m ih j a b = absurd (none-some (after groups g) (sym m))
       go false u m ih zero a b = absurd (omega arith)
       go false u m ih (suc zero) a b = u
       go false u m ih (suc (suc j)) a b = ih m (suc j) (omega arith) (omega arith)
 
   counted : (n g h : ℕ) → 0 < groups → next_awake rows s q n g ≡ Some h → h < groups
   unfolding next_awake
-  counted zero g h p e = absurd (found_some h e)
+  counted zero g h p e = absurd (none-some h e)
   counted (suc n) g h p e = go (may_run rows s q (after groups g)) e (counted n (after groups g) h p)
     where
       go : (b : Bool) → cond b (Some (after groups g)) (next_awake rows s q n (after groups g)) ≡ Some h

@@ -4,8 +4,9 @@ use Rattle.std.specs.Prelude.{Option, Some, None}
 use Prim.Native.Nat.{ℕ, ◌<◌}
 use mathlib.Core.Bool.{Bool, true, false, not, cond, ◌&&◌, ◌||◌}
 use mathlib.Core.List.{List}
-use mathlib.Core.Path.{◌≡◌, refl, ap, ◌∙◌}
+use mathlib.Core.Path.{◌≡◌, refl, sym, ap, ◌∙◌}
 use native.Mathlib.Omega.{arith}
+use Rattle.std.proofs.lemmas.Option.{none-some}
 use lib.Dec.{eqb}
 use Rattle.hexline.proofs.Cond.{by_cond}
 use Rattle.bits.specs.declared.one_word.Bits64.{Bits64}
@@ -53,7 +54,7 @@ module _ (rows : List ℕ) (s : Programs) (partition : ℕ) where
   pub moved_exactly : Formed s → partition < 8 → (found : Option ℕ) → next_of rows s partition ≡ found → Moved rows partition s (moved_to s partition found)
   unfolding moved_to
   moved_exactly f l None e = record {
-    becomes_active = λ g q. let z : ◌≡◌ {A = ℕ} 0 1 = cc in absurd (omega arith);
+    becomes_active = λ g q. absurd (none-some g (sym e ∙ q));
     stays = λ q. refl;
     others = λ q d. refl;
     groups = λ g. refl;
@@ -61,7 +62,7 @@ module _ (rows : List ℕ) (s : Programs) (partition : ℕ) where
   }
   moved_exactly f l (Some h) e = record {
     becomes_active = λ g q. let z : h ≡ g = cc in active_same s partition h f l ∙ z;
-    stays = λ q. let z : ◌≡◌ {A = ℕ} 0 1 = cc in absurd (omega arith);
+    stays = λ q. absurd (none-some h (sym q ∙ e));
     others = λ q d. active_other s partition h q d;
     groups = λ g. group_of_active s partition h g;
     masks = masks_of_active s partition h;

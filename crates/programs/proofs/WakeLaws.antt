@@ -2,7 +2,7 @@
 -- has anything pending. So whoever has something pending afterwards had it before, in a group still awake, or was just woken.
 use Rattle.std.specs.Prelude.{Option, Some, None}
 use Prim.Native.Nat.{ℕ, ◌<◌}
-use mathlib.Core.Bool.{Bool, true, false, ◌||◌, true≢false}
+use mathlib.Core.Bool.{Bool, true, false, true≢false, or-true}
 use mathlib.Core.List.{List}
 use mathlib.Core.Path.{◌≡◌, refl, ap, sym, subst, ◌∙◌}
 use native.Mathlib.Decide.{ℕ_discrete}
@@ -49,10 +49,6 @@ module _ (rows : List ℕ) (s : Programs) (n : NoLostWake rows s) where
   pub pending_wakes : (x : ℕ) (z : Subject) → Facts rows → Formed s → x < (counts_of rows).subjects → NoLostWake rows (woke rows (with_subject s x z) x)
   pending_wakes x z h f l = record { awake = λ y m e. at y m e (ℕ_discrete y x) }
     where
-      or-true : (a : Bool) → (a || true) ≡ true
-      or-true true = refl
-      or-true false = refl
-
       at : (y : ℕ) → y < (counts_of rows).subjects → Pending (subject_at (woke rows (with_subject s x z) x) y) → Dec (y ≡ x)
           → (group_at (woke rows (with_subject s x z) x) (group_of rows y)).awake ≡ true
       at y m e (yes q) =

@@ -1,6 +1,7 @@
 -- "Fresh: .. all groups awake, lowest group and lowest subject active, nothing pending, all subjects closed to interrupts,
 -- no IRQ line masked"; and, "beside a refused start", all zeros.
-use Rattle.std.specs.Prelude.{ℕ, zero, suc, ◌+◌, Bool, true, cond, List, [], ◌∷◌, replicate, eqb}
+use Rattle.std.specs.Prelude.{ℕ, zero, suc, ◌+◌, Bool, true, cond, List, map, replicate, eqb}
+use Rattle.std.specs.List.{range_with_len}
 use Rattle.bits.specs.Sets.{none64}
 use Rattle.rows.specs.Lookups.{counts_of, partition_of, group_of}
 use Rattle.programs.specs.declared.group.Group.{Group}
@@ -13,11 +14,6 @@ unfoldable pub lowest_from : (ℕ → Bool) → ℕ → ℕ → ℕ
 lowest_from test from zero = 0
 lowest_from test from (suc left) = cond (test from) from (lowest_from test (from + 1) left)
 
--- what a list has at each of so many places, from one on
-unfoldable pub list_from : {A : Type 0} → (ℕ → A) → ℕ → ℕ → List A
-list_from item from zero = []
-list_from item from (suc left) = item from ∷ list_from item (from + 1) left
-
 -- "lowest group .. active", of a partition
 unfoldable pub lowest_group : List ℕ → ℕ → ℕ
 lowest_group rows partition = lowest_from (λ group. eqb (partition_of rows group) partition) 0 (counts_of rows).groups
@@ -27,14 +23,14 @@ unfoldable pub lowest_subject : List ℕ → ℕ → ℕ
 lowest_subject rows group = lowest_from (λ subject. eqb (group_of rows subject) group) 0 (counts_of rows).subjects
 
 unfoldable pub fresh_actives : List ℕ → List ℕ
-fresh_actives rows = list_from (lowest_group rows) 0 8
+fresh_actives rows = map (lowest_group rows) (range_with_len 0 8)
 
 -- "all groups awake"
 unfoldable pub fresh_group : List ℕ → ℕ → Group
 fresh_group rows group = record { awake = true; active = lowest_subject rows group }
 
 unfoldable pub fresh_groups : List ℕ → List Group
-fresh_groups rows = list_from (fresh_group rows) 0 16
+fresh_groups rows = map (fresh_group rows) (range_with_len 0 16)
 
 unfoldable pub fresh_programs : List ℕ → Programs
 fresh_programs rows =

@@ -1,4 +1,6 @@
 // What an entry takes of the subject that is entered: its highest pending event, then, if it is open, its highest pending vector.
+#![tactic(auto, unfolding(crate::specs::Entering::reacted, crate::specs::Entering::event_taken_at, crate::specs::Entering::event_taken, crate::specs::Entering::vector_taken_at, crate::specs::Entering::vector_taken, crate::specs::Entering::entering))]
+
 ghost use Rattle.std.specs.Prelude.{◌≡◌};
 ghost use Rattle.programs.specs.Entering.{reacted, event_taken, vector_taken, entering};
 
@@ -38,20 +40,14 @@ impl Subject {
                 subject: self,
                 reset: false,
             },
-            TargetAction::Inject(vector) => {
-                let subject = self.mark_vector(vector);
-                Taken {
-                    subject,
-                    reset: false,
-                }
-            }
-            TargetAction::Reset => {
-                let subject = self.reset();
-                Taken {
-                    subject,
-                    reset: true,
-                }
-            }
+            TargetAction::Inject(vector) => Taken {
+                subject: self.mark_vector(vector),
+                reset: false,
+            },
+            TargetAction::Reset => Taken {
+                subject: self.reset(),
+                reset: true,
+            },
         }
     }
 
@@ -59,43 +55,29 @@ impl Subject {
     fn event_taken(self, rows: &[u64], number: u8) -> Taken
         ensures { result ≡ event_taken rows.now number self }
     {
-        let highest = self.events.highest();
-        match highest {
-            None => Taken {
+        let Some(event) = self.events.highest() else {
+            return Taken {
                 subject: self,
                 reset: false,
-            },
-            Some(event) => {
-                let action = target_event(rows, number, event);
-                let cleared = self.clear_event(event);
-                cleared.reacted(action)
-            }
-        }
+            };
+        };
+        self.clear_event(event)
+            .reacted(target_event(rows, number, event))
     }
 
     // If open, its highest pending vector is taken.
     fn vector_taken(self) -> Injection
         ensures { result ≡ vector_taken self }
     {
-        if !self.open {
-            return Injection {
-                subject: self,
-                vector: None,
-            };
-        }
-        let highest = self.vectors.highest();
-        match highest {
-            None => Injection {
+        match self.vectors.highest() {
+            Some(vector) if self.open => Injection {
+                subject: self.clear_vector(SubjectVector(vector)),
+                vector: Some(vector),
+            },
+            _ => Injection {
                 subject: self,
                 vector: None,
             },
-            Some(vector) => {
-                let subject = self.clear_vector(SubjectVector(vector));
-                Injection {
-                    subject,
-                    vector: Some(vector),
-                }
-            }
         }
     }
 }
@@ -105,16 +87,12 @@ impl Programs {
     pub fn entering(self, rows: &[u64], number: u8) -> Entering
         ensures { result ≡ entering rows.now self number }
     {
-        let kept = self.subject_at(number);
-        let taken = kept.event_taken(rows, number);
-        let reset = taken.reset;
+        let taken = self.subject_at(number).event_taken(rows, number);
         let injection = taken.subject.vector_taken();
-        let vector = injection.vector;
-        let programs = self.with_subject(number, injection.subject);
         Entering {
-            programs,
-            reset,
-            vector,
+            programs: self.with_subject(number, injection.subject),
+            reset: taken.reset,
+            vector: injection.vector,
         }
     }
 }

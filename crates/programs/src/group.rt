@@ -1,4 +1,6 @@
 // One group: whether it is awake, and which of its subjects is active.
+#![tactic(auto, unfolding(crate::specs::Records::woken, crate::specs::Records::asleep, crate::specs::Records::handed_to))]
+
 ghost use Rattle.std.specs.Prelude.{◌≡◌};
 ghost use Rattle.programs.specs.Records.{woken, asleep, handed_to};
 
@@ -8,25 +10,37 @@ pub struct Group {
     pub active: u8,
 }
 
+// What is said of a group that no policy has.
+pub(crate) const NO_GROUP: Group = Group {
+    awake: false,
+    active: 0,
+};
+
 impl Group {
-    pub fn wake(mut self) -> Group
+    pub fn wake(self) -> Group
         ensures { result ≡ woken self }
     {
-        self.awake = true;
-        self
+        Group {
+            awake: true,
+            ..self
+        }
     }
 
-    pub fn sleep(mut self) -> Group
+    pub fn sleep(self) -> Group
         ensures { result ≡ asleep self }
     {
-        self.awake = false;
-        self
+        Group {
+            awake: false,
+            ..self
+        }
     }
 
-    pub fn hand_over(mut self, subject: u8) -> Group
+    pub fn hand_over(self, subject: u8) -> Group
         ensures { result ≡ handed_to self subject }
     {
-        self.active = subject;
-        self
+        Group {
+            active: subject,
+            ..self
+        }
     }
 }

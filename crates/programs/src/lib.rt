@@ -20,6 +20,7 @@ pub use subject::Subject;
 pub use whole::Programs;
 
 // No code: that interrupts, source events and entries change exactly what they should, and lose no wake, is this function's contract.
+#[tactic(auto, using(crate::proofs::Conditions::laws))]
 pub fn lawful()
     ensures { Lawful }
 {}

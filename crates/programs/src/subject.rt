@@ -1,4 +1,6 @@
 // One subject: whether it is open to interrupts, its pending target events and its 256 pending vectors.
+#![tactic(auto, unfolding(crate::specs::Records::fresh_subject, crate::specs::Records::opened_to, crate::specs::Records::event_marked, crate::specs::Records::event_cleared, crate::specs::Records::vector_marked, crate::specs::Records::vector_cleared, crate::specs::Records::resetted, crate::specs::Records::has_pending))]
+
 ghost use Rattle.std.specs.Prelude.{◌≡◌};
 ghost use Rattle.programs.specs.Records.{opened_to, event_marked, event_cleared, vector_marked, vector_cleared, resetted, has_pending, fresh_subject};
 
@@ -17,61 +19,61 @@ impl Subject {
     pub fn fresh() -> Subject
         ensures { result ≡ fresh_subject }
     {
-        let events = Bits64::none();
-        let vectors = Bits256::none();
         Subject {
             open: false,
-            events,
-            vectors,
+            events: Bits64::none(),
+            vectors: Bits256::none(),
         }
     }
 
     // Open, or closed.
-    pub fn set_open(mut self, flag: bool) -> Subject
+    pub fn set_open(self, flag: bool) -> Subject
         ensures { result ≡ opened_to self flag }
     {
-        self.open = flag;
-        self
+        Subject { open: flag, ..self }
     }
 
-    pub fn mark_event(mut self, event: u8) -> Subject
+    pub fn mark_event(self, event: u8) -> Subject
         ensures { result ≡ event_marked self event }
     {
-        let events = self.events.mark(event);
-        self.events = events;
-        self
+        Subject {
+            events: self.events.mark(event),
+            ..self
+        }
     }
 
-    pub fn clear_event(mut self, event: u8) -> Subject
+    pub fn clear_event(self, event: u8) -> Subject
         ensures { result ≡ event_cleared self event }
     {
-        let events = self.events.clear(event);
-        self.events = events;
-        self
+        Subject {
+            events: self.events.clear(event),
+            ..self
+        }
     }
 
-    pub fn mark_vector(mut self, vector: SubjectVector) -> Subject
+    pub fn mark_vector(self, vector: SubjectVector) -> Subject
         ensures { result ≡ vector_marked self vector }
     {
-        let vectors = self.vectors.mark(vector.0);
-        self.vectors = vectors;
-        self
+        Subject {
+            vectors: self.vectors.mark(vector.0),
+            ..self
+        }
     }
 
-    pub fn clear_vector(mut self, vector: SubjectVector) -> Subject
+    pub fn clear_vector(self, vector: SubjectVector) -> Subject
         ensures { result ≡ vector_cleared self vector }
     {
-        let vectors = self.vectors.clear(vector.0);
-        self.vectors = vectors;
-        self
+        Subject {
+            vectors: self.vectors.clear(vector.0),
+            ..self
+        }
     }
 
     // No vector is pending, and it is closed; events stay.
     pub fn reset(mut self) -> Subject
         ensures { result ≡ resetted self }
     {
-        let vectors = Bits256::none();
-        self.vectors = vectors;
+        self.vectors = Bits256::none();
         self.open = false;
         self
     }
@@ -80,8 +82,6 @@ impl Subject {
     pub fn has_pending(self) -> bool
         ensures { result ≡ has_pending self }
     {
-        let no_event = self.events.is_empty();
-        let no_vector = self.vectors.is_empty();
-        !no_event | !no_vector
+        !self.events.is_empty() || !self.vectors.is_empty()
     }
 }

@@ -1,17 +1,9 @@
--- `groups_in_range_below` meets its contract: before each turn, the partitions' active groups so far are in range.
-use mathlib.Core.Path.{sym, ◌∙◌}
-use native.Mathlib.Omega.{arith}
-use Rattle.rules.proofs.Below.{below_none, below_more, below_stop, below_end}
+-- `groups_in_range_below` meets its contract: the partitions are asked one after the other.
+use borrow.Author.Rules.{rules}
+use borrow.Author.Tests.{tests}
+use Rattle.rules.proofs.Below.{ranged_all}
+use Rattle.programs.specs.Range.{group_in_range}
 use Rattle.programs.proofs.whole.Programs.groups_in_range_below.Goals as goal
 
-pub loop-partition-init : goal.loop-partition-init
-loop-partition-init c = (omega arith, below_none _)
-
-pub returns-then-not-group_in_range : goal.returns-then-not-group_in_range
-returns-then-not-group_in_range c = sym (below_stop _ _ c.loop-partition.partition (omega arith) (sym c.group_in_range.ensures ∙ c.if-not-group_in_range.true))
-
-pub loop-partition-preserved : goal.loop-partition-preserved
-loop-partition-preserved c = (omega arith, below_more _ _ c.loop-partition.invariant.1 (sym c.group_in_range.ensures ∙ c.if-not-group_in_range.false))
-
 pub returns : goal.returns
-returns c = below_end _ _ c.loop-partition.partition (omega arith) c.loop-partition.invariant.1
+returns c = ranged_all _ (group_in_range c.args.rows.now c.args.self) c.all.ensures.ran (search rules) (λ x b q k. search (rules, tests))
