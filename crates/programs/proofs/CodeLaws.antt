@@ -1,4 +1,4 @@
--- Laws in the code's form: what `any` and `find` over the numbers below a bound answer, and what `from_fn` lays, in the definitions'
+-- Laws in the code's form: what `find` over the numbers below a bound answers, and what `from_fn` lays, in the definitions'
 -- words. Each goes by induction on how many numbers are left.
 use Prim.Native.Nat.{ℕ, zero, suc, ◌+◌, ◌-◌, ◌<◌}
 use mathlib.Core.Bool.{Bool, true, false, cond, ◌||◌}
@@ -32,19 +32,6 @@ use Rattle.programs.specs.declared.whole.Programs.{Programs}
 use Rattle.programs.specs.Fresh.{lowest_from}
 use Rattle.programs.specs.Round.{after, may_run, next_awake}
 
--- ---- any
-
--- the last of the numbers tested last
-any_last : (test : ℕ → Bool) (a n : ℕ)
-    → list_any test (range_with_len a (suc n)) ≡ list_any test (range_with_len a n) || test (a + n)
-any_last test a zero = rw add-zero (or-false (test a))
-any_last test a (suc n) = rw (any_last test (a + 1) n) (let e : a + 1 + n ≡ a + suc n = omega arith in rw (e, or_assoc))
-
-any_range : (test : ℕ → Bool) (n : ℕ) → list_any test (range_with_len 0 n) ≡ any_below n test
-unfolding any_below
-any_range test zero = refl
-any_range test (suc n) = any_last test 0 n ∙ rw (any_range test n, zero-add) refl
-
 -- ---- find
 
 lowest_range : (test : ℕ → Bool) (a n : ℕ) → unwrap_or (find test (range_with_len a n)) 0 ≡ lowest_from test a n
@@ -57,15 +44,6 @@ lowest_range test a (suc n) = rw (← lowest_range test (a + 1) n) (by_test _ (t
     by_test o false = refl
 
 -- ---- by the clauses of the calls
-
--- what `(0..n).any(f)` answers
-pub ranged_any : {F : Type 0} {g : Mut F (ℕ × Unit {0}) Bool} {n : ℕ} {u : Range ℕ} {f : F} {r : Bool} {test : ℕ → Bool}
-    → (xs : List ℕ) × (o : Option ℕ) × (j : F) × YieldsThen nat_range_steps (record { start = 0; end = n }) xs o u
-    × FoldsTo (λ p x q. Called g p (x, tt) false q) f xs j
-    × MatchOption o (r ≡ false) (λ x. (r ≡ true) × ((h : F) × Called g j (x, tt) true h))
-    → ((x : ℕ) (b : Bool) (q : F) → Called g f (x, tt) b q → (q ≡ f) × (b ≡ test x)) → r ≡ any_below n test
-ranged_any {F} {g} {n} {u} {f} {r} {test} ran computes =
-    any_from_yields_List test u f r ran (YieldsList-from_range 0 n n refl (omega arith)) computes ∙ any_range test n
 
 -- what `(0..n).find(f).unwrap_or(0)` answers
 pub ranged_lowest : {F : Type 0} {g : Mut F (Bor ℕ × Unit {0}) Bool} {n : ℕ} {f : F} {test : ℕ → Bool} (u : Range ℕ) (r : Option ℕ)

@@ -69,12 +69,18 @@ impl Subject {
     fn vector_taken(self) -> Injection
         ensures { result ≡ vector_taken self }
     {
+        if !self.open {
+            return Injection {
+                subject: self,
+                vector: None,
+            };
+        }
         match self.vectors.highest() {
-            Some(vector) if self.open => Injection {
+            Some(vector) => Injection {
                 subject: self.clear_vector(SubjectVector(vector)),
                 vector: Some(vector),
             },
-            _ => Injection {
+            None => Injection {
                 subject: self,
                 vector: None,
             },

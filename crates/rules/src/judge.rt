@@ -19,28 +19,26 @@ pub struct Progress {
 }
 
 // Whether the line's key is out of order, by its place: not past the last line's. A ninth minor frame has no place.
+#[tactic(auto, unfolding(crate::specs::Tables::behind, rows::specs::Places::frames_place))]
 fn is_behind(next: usize, rec: Record) -> bool
     ensures { result ≡ behind next rec }
 {
-    let place = place_of(next, rec);
     match rec {
-        Record::Header(_) => false,
+        Record::Header(_) | Record::End { .. } => false,
         Record::Frame(f) => frames_place(f.major, f.cpu) + 8 <= next,
-        Record::End { count: _ } => false,
-        _ => place < next,
+        _ => place_of(next, rec) < next,
     }
 }
 
 // What a line gets, that has a number, after so many lines.
+#[tactic(auto, unfolding(crate::specs::Rules::judged, crate::specs::Tables::said_by))]
 pub fn verdict_of(rows: &[u64], done: Progress, line: u16, rec: Record) -> Result<(), Refusal>
     ensures { result ≡ judged (said_by rows.now) done.kind done.lines line (behind done.next rec) rec }
 {
-    let kind = kind_of(rec);
-    if wrong_kind(done.kind, kind) {
+    if wrong_kind(done.kind, kind_of(rec)) {
         return Err(Refusal::WrongKind(line));
     }
-    let counts = counts_of(rows);
-    if !in_range(counts, rec) {
+    if !in_range(counts_of(rows), rec) {
         return Err(Refusal::OutOfRange(line));
     }
     if is_behind(done.next, rec) {

@@ -28,6 +28,7 @@ pub enum Refusal {
 
 impl Refusal {
     // Document 01's number.
+    #[tactic(auto, unfolding(crate::specs::Refusals::number_of))]
     pub fn number(self) -> u8
         ensures { result ≡ number_of self }
     {
@@ -46,20 +47,19 @@ impl Refusal {
     }
 
     // The line it is given with, 0 where there is none.
+    #[tactic(auto, unfolding(crate::specs::Refusals::line_of))]
     pub fn line(self) -> u16
         ensures { result ≡ line_of self }
     {
         match self {
-            Refusal::NotAPolicy => 0,
-            Refusal::TooLong => 0,
-            Refusal::IllFormed(line) => line,
-            Refusal::WrongKind(line) => line,
-            Refusal::OutOfRange(line) => line,
-            Refusal::OutOfOrder(line) => line,
-            Refusal::Incomplete(line) => line,
-            Refusal::Misplaced(line) => line,
-            Refusal::Uneven(line) => line,
-            Refusal::NoRoom => 0,
+            Refusal::NotAPolicy | Refusal::TooLong | Refusal::NoRoom => 0,
+            Refusal::IllFormed(line)
+            | Refusal::WrongKind(line)
+            | Refusal::OutOfRange(line)
+            | Refusal::OutOfOrder(line)
+            | Refusal::Incomplete(line)
+            | Refusal::Misplaced(line)
+            | Refusal::Uneven(line) => line,
         }
     }
 }

@@ -7,4 +7,4 @@ use Rattle.clock.proofs.time.Clock.all_finished.Goals as goal
 
 pub returns : goal.returns
 unfolding all_finished
-returns c = rw (← c.counts_of.ensures) (ranged_all _ (finished c.args.self) c.all.ensures.ran (search rules) (λ x b q k. search (rules, tests)))
+returns c = rw (← c.counts_of.ensures) (ranged_all {test = finished c.args.self} c.all.ensures.ran (λ x b q k. search (rules, tests)))

@@ -6,4 +6,4 @@ use Rattle.rules.proofs.Below.{ranged_all}
 use Rattle.clock.proofs.time.Clock.cpus_in_range.Goals as goal
 
 pub returns : goal.returns
-returns c = ranged_all _ (cpu_in_range c.args.rows.now c.args.self) c.all.ensures.ran (search rules) (λ x b q k. search (rules, tests))
+returns c = ranged_all {test = cpu_in_range c.args.rows.now c.args.self} c.all.ensures.ran (λ x b q k. search (rules, tests))

@@ -2,7 +2,7 @@
 use borrow.Author.Rules.{rules}
 use borrow.Author.Tests.{tests}
 use Rattle.programs.specs.Round.{group_pending}
-use Rattle.programs.proofs.CodeLaws.{ranged_any}
+use Rattle.rules.proofs.Below.{ranged_any}
 use Rattle.programs.proofs.whole.Programs.group_pending.Goals as goal
 
 pub returns : goal.returns

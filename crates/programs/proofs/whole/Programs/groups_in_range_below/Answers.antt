@@ -6,4 +6,4 @@ use Rattle.programs.specs.Range.{group_in_range}
 use Rattle.programs.proofs.whole.Programs.groups_in_range_below.Goals as goal
 
 pub returns : goal.returns
-returns c = ranged_all _ (group_in_range c.args.rows.now c.args.self) c.all.ensures.ran (search rules) (λ x b q k. search (rules, tests))
+returns c = ranged_all {test = group_in_range c.args.rows.now c.args.self} c.all.ensures.ran (λ x b q k. search (rules, tests))
