@@ -1,16 +1,16 @@
 -- Minor frames: the rows of a major and CPU are those of its 05 lines in the text's order, so there are as many, and each says what its
 -- line says. Past the last there is none, and none of a major or CPU that no line may name.
 use Prim.Native.Nat.{ℕ, zero, suc, ◌+◌, ◌*◌, ◌/◌, ◌%◌, ◌≤◌, ◌<◌}
-use mathlib.Core.Bool.{Bool, true, false, cond, ◌&&◌}
+use mathlib.Core.Bool.{Bool, true, false, not, cond, ◌&&◌}
 use mathlib.Core.List.{List, [], ◌∷◌, ◌++◌}
 use mathlib.Core.Logic.{inl, inr}
-use mathlib.Core.Path.{◌≡◌, refl, ap, sym, ◌∙◌}
+use mathlib.Core.Path.{◌≡◌, refl, ap, ap₂, sym, ◌∙◌}
 use native.Mathlib.Omega.{arith}
 use native.Mathlib.Decide.{dec_lt}
-use native.Mathlib.Numerals.{add-one}
-use lib.Dec.{ltb, eqb}
+use lib.Dec.{ltb, eqb, eqb-suc-suc}
 use lib.ListN.{length, get_or, length-append}
-use borrow.Author.Tests.{eqb-true, eqb-false, eq-eqb, ne_eqb, lt-ltb, le-ltb}
+use borrow.Author.Tests.{eqb-true, eqb-false, ne_eqb, lt-ltb, le-ltb}
+use Rattle.std.specs.List.{filter, range_with_len}
 use Rattle.hexline.proofs.Cond.{by_cond, both}
 use Rattle.records.specs.declared.kind.FrameLine.{FrameLine}
 use Rattle.records.specs.declared.kind.Record.{Record}
@@ -30,18 +30,28 @@ use Rattle.meaning.proofs.Laid.{Laid}
 
 -- ---- the count, place by place
 
-pub none_below : (rows : List ℕ) (m c : ℕ) → frames_below rows m c 0 ≡ 0
-unfolding frames_below
-none_below rows m c = refl
+abbrev pub has_row : List ℕ → ℕ → ℕ → ℕ → Bool
+has_row rows m c i = not (eqb (minor_row rows m c i) 0)
 
-at_most_one : (t : Bool) → cond {A = ℕ} t 0 1 ≤ 1
-at_most_one true = omega arith
-at_most_one false = omega arith
+one_more : (t : Bool) (a : ℕ) (xs : List ℕ) → length (cond t (a ∷ xs) xs) ≡ length xs + cond t 1 0
+one_more true a xs = omega arith
+one_more false a xs = omega arith
 
-pub one_below : (rows : List ℕ) (m c i row one : ℕ) → one ≡ cond (eqb row 0) 0 1 → row ≡ minor_row rows m c i
-    → (frames_below rows m c (i + 1) ≡ frames_below rows m c i + one) × (one ≤ 1)
+filter_more : (f : ℕ → Bool) (n a m : ℕ) → a + n ≡ m → length (filter f (range_with_len a (suc n))) ≡ length (filter f (range_with_len a n)) + cond (f m) 1 0
+filter_more f zero a m e = let h : a ≡ m = omega arith in rw h (one_more (f m) m [])
+filter_more f (suc n) a m e =
+    let more = filter_more f n (a + 1) m (omega arith) in
+    omega (arith, one_more (f a) a (filter f (range_with_len (a + 1) (suc n))), one_more (f a) a (filter f (range_with_len (a + 1) n)), more)
+
+not_cond : (t : Bool) → cond {A = ℕ} (not t) 1 0 ≡ cond t 0 1
+not_cond true = refl
+not_cond false = refl
+
+pub counted_rows : (rows : List ℕ) (m c n : ℕ) → length (filter (has_row rows m c) (range_with_len 0 n)) ≡ frames_below rows m c n
 unfolding frames_below
-one_below rows m c i row one q r = (rw (add-one i, q, r), rw q (at_most_one (eqb row 0)))
+counted_rows rows m c zero = refl
+counted_rows rows m c (suc n) =
+    filter_more (has_row rows m c) n 0 n (omega arith) ∙ ap₂ (λ (a : ℕ) (b : ℕ). a + b) (counted_rows rows m c n) (not_cond (eqb (minor_row rows m c n) 0))
 
 -- ---- the lines of a major and CPU
 
@@ -76,10 +86,6 @@ unfolding row_behind
 no_line i = refl
 
 -- ---- the row of each place, of any pair and number
-
-and-false : (a : Bool) → (a && false) ≡ false
-and-false true = refl
-and-false false = refl
 
 module _ (e : List Record) (l : Laid e) (h : (f : FrameLine) → Has (Frame f) e → Fits (Frame f)) (m c : ℕ) where
   minor_row_lem : (i : ℕ) → minor_row (table_of e) m c i ≡ row_behind (frames_of m c e) i
@@ -158,14 +164,7 @@ pub get_last : (xs : List minor.Frame) (x d : minor.Frame) (i : ℕ) → get_or 
 get_last [] x d zero = refl
 get_last [] x d (suc i) = rw (ne_eqb 0 (suc i) (λ z. omega arith))
 get_last (y ∷ xs) x d zero = rw (ne_eqb (suc (length xs)) 0 (λ z. omega arith))
-get_last (y ∷ xs) x d (suc i) = get_last xs x d i ∙ ap (λ (t : Bool). cond t x (get_or xs i d)) (step (length xs) i)
-  where
-    step : (a b : ℕ) → eqb a b ≡ eqb (suc a) (suc b)
-    step a b = go (eqb a b) refl
-      where
-        go : (t : Bool) → eqb a b ≡ t → t ≡ eqb (suc a) (suc b)
-        go true q = sym (eq-eqb (suc a) (suc b) (ap suc (eqb-true a b q)))
-        go false q = sym (ne_eqb (suc a) (suc b) (λ z. eqb-false a b q (omega arith)))
+get_last (y ∷ xs) x d (suc i) = get_last xs x d i ∙ ap (λ (t : Bool). cond t x (get_or xs i d)) (sym (eqb-suc-suc (length xs) i))
 
 -- lines and what they say, side by side
 pub record Side (lines : List (List ℕ)) (said : List minor.Frame) : Type 0 where

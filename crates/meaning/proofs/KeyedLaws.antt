@@ -1,7 +1,7 @@
 -- One law for every kind with a key: the row at the place of a line's key is that line's, and a place that no line of the kind has holds
 -- 0. So a lookup that says what the row at a key's place says tells the lines of the kind.
 use Prim.Native.Nat.{ℕ, ◌<◌}
-use mathlib.Core.Bool.{Bool, true, false, cond, not}
+use mathlib.Core.Bool.{Bool, true, false, cond, not, true≢false}
 use mathlib.Core.List.{List}
 use mathlib.Core.Logic.{◌⊎◌, inl, inr, ◌↔◌}
 use mathlib.Core.Path.{◌≡◌, refl, ap, ap₂, sym, ◌∙◌}
@@ -43,9 +43,6 @@ room (Trap x) k = tt
 room (Target x) k = tt
 room (Route x) k = tt
 room (End x) k = tt
-
-never : (t : Bool) → t ≡ true → t ≡ false → ⊥
-never t p q = let z : ◌≡◌ {A = ℕ} 0 1 = cc in omega arith
 
 -- ---- the row of a line
 
@@ -92,7 +89,7 @@ module _ {Line Key : Type 0} (line : Line → Record) (key : Line → Key) (may 
 
       listed : not (eqb (get_or (table_of e) (place k) 0) 0) ≡ true → Listed line key e k ⊎ (Unlisted line key e k × (get_or (table_of e) (place k) 0 ≡ 0)) → Listed line key e k
       listed g (inl t) = t
-      listed g (inr (u, z)) = absurd (never _ g (ap not (eq-eqb (get_or (table_of e) (place k) 0) 0 z)))
+      listed g (inr (u, z)) = absurd (true≢false (sym g ∙ ap not (eq-eqb (get_or (table_of e) (place k) 0) 0 z)))
 
 -- ---- a lookup by the row
 
@@ -134,7 +131,7 @@ module _ {Line Key Answer : Type 0} (line : Line → Record) (key : Line → Key
       go : (t : Bool) → may k ≡ t → ((listed : Listed line key e k) × (says listed.said ≡ look k)) ⊎ (Unlisted line key e k × (look k ≡ nothing k))
       go true m = of (listed_or line key may place build kept e l k m) m
       go false m =
-          inr (λ w h q. never (may k) (ap may (sym q) ∙ (held line key may place build kept e l w h).may) m, answer k 0 (other_row k m))
+          inr (λ w h q. true≢false (sym (held line key may place build kept e l w h).may ∙ ap may q ∙ m), answer k 0 (other_row k m))
 
   pub tells : Tells line key says nothing look e
   tells =

@@ -1,7 +1,7 @@
 -- An accepted line says something: what it says is never what is said of a key without a line. By the rules of document 01 on ranges
 -- (08), on targets (06: "action 0 without" one is misplaced) and on traps (07: "a trap line equal to the default" is).
 use Rattle.std.specs.Prelude.{Option, Some, None}
-use Prim.Native.Nat.{ℕ, suc, ◌≤◌}
+use Prim.Native.Nat.{ℕ, zero, suc, ◌≤◌}
 use mathlib.Core.Bool.{Bool, true, false, cond, not, ◌&&◌, ◌||◌}
 use mathlib.Core.List.{List, [], ◌∷◌}
 use mathlib.Core.Logic.{inl, inr}
@@ -25,7 +25,6 @@ use Rattle.rules.specs.Said.{Said, said_in, line_with, some}
 use Rattle.rules.specs.Rules.{none, in_range, event_in_range, target_in_range, misplaced, has_target, unknown_subject, wrong_irq_line, wrong_handover, half_target, wrong_target, event_misplaced, trap_misplaced, Fair}
 use Rattle.rules.proofs.Fine.{Fine, fine, counts_fit, fits_of}
 use Rattle.meaning.specs.declared.answer.SubjectVector.{SubjectVector}
-use Rattle.meaning.specs.declared.answer.Action.{Action}
 use Rattle.meaning.specs.declared.answer.Action.TheVariants as action
 use Rattle.meaning.specs.declared.answer.Signal.{Signal}
 use Rattle.meaning.specs.declared.answer.SourceEvent.{SourceEvent}
@@ -58,14 +57,14 @@ fits_among e f r h k =
 
 pub route_spoken : (w : RouteLine) → Some (route_from w) ≡ None → ⊥
 unfolding route_from
-route_spoken w q = let z : ◌≡◌ {A = ℕ} 0 1 = cc in omega arith
+route_spoken w q = cc
 
 -- ---- 08
 
 acts : (a b x y : Bool) (v : SubjectVector) → ((a && x) || (b && y)) ≡ true → cond a (target.Inject v) (cond b target.Reset target.Nothing) ≡ target.Nothing → ⊥
-acts true b x y v t q = let z : ◌≡◌ {A = ℕ} 0 1 = cc in omega arith
-acts false true x y v t q = let z : ◌≡◌ {A = ℕ} 0 1 = cc in omega arith
-acts false false x y v t q = let z : ◌≡◌ {A = ℕ} 0 1 = cc in omega arith
+acts true b x y v t q = cc
+acts false true x y v t q = cc
+acts false false x y v t q = cc
 
 pub target_spoken : (n : Counts) (t : TargetLine) → in_range n (Target t) ≡ true → target_from t ≡ target.Nothing → ⊥
 unfolding in_range target_in_range target_from
@@ -77,41 +76,36 @@ target_spoken n t r q =
 -- ---- 06
 
 pub neither_of : (a b : Bool) → (a || b) ≡ false → (a ≡ false) × (b ≡ false)
-neither_of true b q = let z : ◌≡◌ {A = ℕ} 0 1 = cc in absurd (omega arith)
+neither_of true b q = absurd cc
 neither_of false b q = (refl, q)
 
-less : (n k : ℕ) → n ≤ suc k → (n ≡ suc k → ⊥) → n ≤ k
-less n k l d = omega arith
-
-least : (n : ℕ) → n ≤ 0 → n ≡ 0
-least n l = omega arith
+-- the numbers to 7, one by one
+pub to_seven : (P : ℕ → Type 0) → P 0 → P 1 → P 2 → P 3 → P 4 → P 5 → P 6 → P 7 → (n : ℕ) → n ≤ 7 → P n
+to_seven P a b c d e f g h zero l = a
+to_seven P a b c d e f g h (suc zero) l = b
+to_seven P a b c d e f g h (suc (suc zero)) l = c
+to_seven P a b c d e f g h (suc (suc (suc zero))) l = d
+to_seven P a b c d e f g h (suc (suc (suc (suc zero)))) l = e
+to_seven P a b c d e f g h (suc (suc (suc (suc (suc zero))))) l = f
+to_seven P a b c d e f g h (suc (suc (suc (suc (suc (suc zero)))))) l = g
+to_seven P a b c d e f g h (suc (suc (suc (suc (suc (suc (suc zero))))))) l = h
+to_seven P a b c d e f g h (suc (suc (suc (suc (suc (suc (suc (suc n)))))))) l = absurd (omega arith)
 
 -- no action is number 0
-idle : (n irq s : ℕ) → n ≤ 7 → action_from n irq s ≡ action.Nothing → n ≡ 0
+idle : (irq s n : ℕ) → n ≤ 7 → action_from n irq s ≡ action.Nothing → n ≡ 0
 unfolding action_from
-idle n irq s l =
-    by_cond P (eqb n 1) _ _ (λ e q. let z : ◌≡◌ {A = ℕ} 0 1 = cc in absurd (omega arith)) (λ e₁.
-    by_cond P (eqb n 2) _ _ (λ e q. let z : ◌≡◌ {A = ℕ} 0 1 = cc in absurd (omega arith)) (λ e₂.
-    by_cond P (eqb n 3) _ _ (λ e q. let z : ◌≡◌ {A = ℕ} 0 1 = cc in absurd (omega arith)) (λ e₃.
-    by_cond P (eqb n 4) _ _ (λ e q. let z : ◌≡◌ {A = ℕ} 0 1 = cc in absurd (omega arith)) (λ e₄.
-    by_cond P (eqb n 5) _ _ (λ e q. let z : ◌≡◌ {A = ℕ} 0 1 = cc in absurd (omega arith)) (λ e₅.
-    by_cond P (eqb n 6) _ _ (λ e q. let z : ◌≡◌ {A = ℕ} 0 1 = cc in absurd (omega arith)) (λ e₆.
-    by_cond P (eqb n 7) _ _ (λ e q. let z : ◌≡◌ {A = ℕ} 0 1 = cc in absurd (omega arith)) (λ e₇ q.
-    least n (less n 0 (less n 1 (less n 2 (less n 3 (less n 4 (less n 5 (less n 6 l (eqb-false n 7 e₇)) (eqb-false n 6 e₆)) (eqb-false n 5 e₅)) (eqb-false n 4 e₄)) (eqb-false n 3 e₃)) (eqb-false n 2 e₂)) (eqb-false n 1 e₁)))))))))
-  where
-    P : Action → Type 0
-    P x = x ≡ action.Nothing → n ≡ 0
+idle irq s = to_seven (λ n. action_from n irq s ≡ action.Nothing → n ≡ 0) (λ q. refl) (λ q. cc) (λ q. cc) (λ q. cc) (λ q. cc) (λ q. cc) (λ q. cc) (λ q. cc)
 
 signalled : (s event kick : ℕ) → eqb event none ≡ false → signal_from s event kick ≡ None → ⊥
 unfolding signal_from
 signalled s event kick t =
     by_cond (λ (x : Option Signal). x ≡ None → ⊥) (eqb event none) _ _
-    (λ u q. let z : ◌≡◌ {A = ℕ} 0 1 = cc in omega arith) (λ u q. let z : ◌≡◌ {A = ℕ} 0 1 = cc in omega arith)
+    (λ u q. cc) (λ u q. cc)
 
 -- action 0 has a target, and with it a target event
 targeted : (t h : Bool) → ((false && h) || (true && not h)) ≡ false → cond h (true && t) (true && not t) ≡ false → t ≡ false
 targeted t true a b = b
-targeted t false a b = let z : ◌≡◌ {A = ℕ} 0 1 = cc in absurd (omega arith)
+targeted t false a b = absurd cc
 
 pub event_spoken : (n : Counts) (said : Said) (v : EventLine) → in_range n (Event v) ≡ true → misplaced said (Event v) ≡ false → source_from v ≡ no_event → ⊥
 unfolding in_range event_in_range misplaced event_misplaced half_target wrong_target source_from no_event has_target
@@ -119,7 +113,7 @@ event_spoken n said v r m q =
     let a = both (ltb v.subject n.subjects) _ r in
     let b = both (leb v.event 15) _ a.1 in
     let l : v.action ≤ 7 = leb-true v.action 7 (both (leb v.action 7) _ b.1).0 in
-    let i : v.action ≡ 0 = idle v.action v.irq v.target l (ap (λ (x : SourceEvent). x.action) q) in
+    let i : v.action ≡ 0 = idle v.irq v.target v.action l (ap (λ (x : SourceEvent). x.action) q) in
     let c = neither_of (unknown_subject said v) _ m in
     let d = neither_of (wrong_irq_line v) _ c.1 in
     let f = neither_of (wrong_handover said v) _ d.1 in
@@ -144,7 +138,7 @@ more r e n d g = record { line = g.line; among = inr g.among; number = g.number;
 
 given_subject : (e : List Record) (n : ℕ) → some (line_with 4 n e) ≡ true → GivenSubject e n (get_or (line_with 4 n e) 3 0)
 unfolding line_with kind_of bytes_of Has
-given_subject [] n g = let z : ◌≡◌ {A = ℕ} 0 1 = cc in absurd (omega arith)
+given_subject [] n g = absurd cc
 given_subject (Header x ∷ e) n g = more (Header x) e n _ (given_subject e n g)
 given_subject (Partition x ∷ e) n g = more (Partition x) e n _ (given_subject e n g)
 given_subject (Group x ∷ e) n g = more (Group x) e n _ (given_subject e n g)

@@ -3,7 +3,7 @@
 -- kick without a target event, since a handover stays in its group and so on its CPU.
 use Rattle.std.specs.Prelude.{Option, Some, None}
 use Rattle.meaning.specs.declared.answer.IrqLine.{IrqLine}
-use Prim.Native.Nat.{ℕ, zero, suc, ◌≤◌}
+use Prim.Native.Nat.{ℕ, ◌≤◌}
 use mathlib.Core.Bool.{Bool, true, false, cond, not, ◌&&◌, ◌||◌}
 use mathlib.Core.Logic.{◌⊎◌, inl, inr}
 use mathlib.Core.Path.{◌≡◌, refl, ap, sym}
@@ -29,7 +29,7 @@ use Rattle.meaning.specs.declared.answer.TargetAction.{TargetAction}
 use Rattle.meaning.specs.declared.answer.TargetAction.TheVariants as target
 use Rattle.meaning.specs.Answers.{masking_from, route_from, action_from, signal_from, source_from, target_from}
 use Rattle.meaning.specs.Means.{host_of, event_key, trap_key, target_key}
-use Rattle.meaning.proofs.Spoken.{neither_of}
+use Rattle.meaning.proofs.Spoken.{neither_of, to_seven}
 
 -- ---- 09
 
@@ -141,18 +141,6 @@ event_back k x =
       kick = signal_kick x.signal;
     }
 
--- the numbers to 7, one by one
-to_seven : (P : ℕ → Type 0) → P 0 → P 1 → P 2 → P 3 → P 4 → P 5 → P 6 → P 7 → (n : ℕ) → n ≤ 7 → P n
-to_seven P a b c d e f g h zero l = a
-to_seven P a b c d e f g h (suc zero) l = b
-to_seven P a b c d e f g h (suc (suc zero)) l = c
-to_seven P a b c d e f g h (suc (suc (suc zero))) l = d
-to_seven P a b c d e f g h (suc (suc (suc (suc zero)))) l = e
-to_seven P a b c d e f g h (suc (suc (suc (suc (suc zero))))) l = f
-to_seven P a b c d e f g h (suc (suc (suc (suc (suc (suc zero)))))) l = g
-to_seven P a b c d e f g h (suc (suc (suc (suc (suc (suc (suc zero))))))) l = h
-to_seven P a b c d e f g h (suc (suc (suc (suc (suc (suc (suc (suc n)))))))) l = absurd (omega arith)
-
 number_back : (irq s n : ℕ) → n ≤ 7 → number_of (action_from n irq s) ≡ n
 unfolding number_of action_from
 number_back irq s = to_seven (λ n. number_of (action_from n irq s) ≡ n) refl refl refl refl refl refl refl refl
@@ -174,7 +162,7 @@ whole_target s event kick = go (eqb s 255) (eqb event 255) _ refl
     go : (h t b : Bool) → eqb s 255 ≡ h → cond (not h) t (not t) ≡ false → signal_subject (cond t None (Some (record { subject = s; event = event; kick = b }))) ≡ s
     go true true b p q = sym (eqb-true s 255 p)
     go true false b p q = refl
-    go false true b p q = let z : ◌≡◌ {A = ℕ} 0 1 = cc in absurd (omega arith)
+    go false true b p q = absurd cc
     go false false b p q = refl
 
 target_of_lem : (irq s event kick n : ℕ) → n ≤ 7 → cond (not (eqb s 255)) (not (eqb n 3) && eqb event 255) (not (eqb n 3) && not (eqb event 255)) ≡ false
@@ -208,10 +196,10 @@ module _ (said : Said) (v : EventLine) (half : half_target v ≡ false) (handed 
           → (n && (not h || (o || not g))) ≡ false
           → (not h || eqb (cpu_of_subject said v.target) (cpu_of_subject said v.subject)) ≡ false
           → ⊥
-      go n false o g q a b c = let z : ◌≡◌ {A = ℕ} 0 1 = cc in omega arith
-      go false true o g q a b c = let z : ◌≡◌ {A = ℕ} 0 1 = cc in omega arith
-      go true true true g q a b c = let z : ◌≡◌ {A = ℕ} 0 1 = cc in omega arith
-      go true true false false q a b c = let z : ◌≡◌ {A = ℕ} 0 1 = cc in omega arith
+      go n false o g q a b c = cc
+      go false true o g q a b c = cc
+      go true true true g q a b c = cc
+      go true true false false q a b c = cc
       go true true false true q a b c =
           let s = eqb-true (said.group_of v.target) (said.group_of v.subject) q in
           eqb-false (cpu_of_subject said v.target) (cpu_of_subject said v.subject) c (ap (λ (x : ℕ). said.cpu_of (said.partition_of x)) s)

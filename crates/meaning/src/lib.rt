@@ -13,6 +13,7 @@ pub use answer::{
 pub use lookup::{frame_at, frame_count, route_of, source_event, target_event, trap_event};
 
 // No code: that a policy means its text is this function's contract.
+#[tactic(auto, using(crate::proofs::Laws::laws))]
 pub fn lawful()
     ensures { Lawful }
 {}

@@ -1,4 +1,6 @@
 // What one line says.
+#![tactic(auto, unfolding(crate::specs::Answers::masking_from, crate::specs::Answers::route_from, crate::specs::Answers::action_from, crate::specs::Answers::signal_from, crate::specs::Answers::source_from, crate::specs::Answers::target_from, crate::specs::Answers::frame_from))]
+
 ghost use Rattle.std.specs.Prelude.{◌≡◌};
 ghost use Rattle.meaning.specs.Answers.{masking_from, route_from, action_from, signal_from, source_from, target_from, frame_from};
 
@@ -33,22 +35,17 @@ const RESET: u8 = 2;
 fn masking_from(irq: u8) -> Option<IrqLine>
     ensures { result ≡ masking_from irq }
 {
-    if irq == NONE {
-        return None;
-    }
-    Some(IrqLine(irq))
+    (irq != NONE).then_some(IrqLine(irq))
 }
 
 // A 09 line.
 pub(crate) fn route_from(w: RouteLine) -> Route
     ensures { result ≡ route_from w }
 {
-    let line = masking_from(w.irq);
-    let vector = SubjectVector(w.vector);
     Route {
         subject: w.subject,
-        vector,
-        line,
+        vector: SubjectVector(w.vector),
+        line: masking_from(w.irq),
     }
 }
 
@@ -70,10 +67,7 @@ fn action_from(action: u8, irq: u8, target: u8) -> Action
 fn signal_from(target: u8, event: u8, kick: u8) -> Option<Signal>
     ensures { result ≡ signal_from target event kick }
 {
-    if event == NONE {
-        return None;
-    }
-    Some(Signal {
+    (event != NONE).then_some(Signal {
         subject: target,
         event,
         kick: kick == 1,
@@ -84,17 +78,17 @@ fn signal_from(target: u8, event: u8, kick: u8) -> Option<Signal>
 pub(crate) fn source_from(e: EventLine) -> SourceEvent
     ensures { result ≡ source_from e }
 {
-    let action = action_from(e.action, e.irq, e.target);
-    let signal = signal_from(e.target, e.target_event, e.kick);
-    SourceEvent { action, signal }
+    SourceEvent {
+        action: action_from(e.action, e.irq, e.target),
+        signal: signal_from(e.target, e.target_event, e.kick),
+    }
 }
 
 // A 08 line.
 pub(crate) fn target_from(t: TargetLine) -> TargetAction
     ensures { result ≡ target_from t }
 {
-    let action = t.action;
-    match action {
+    match t.action {
         INJECT => TargetAction::Inject(SubjectVector(t.vector)),
         RESET => TargetAction::Reset,
         _ => TargetAction::Nothing,
