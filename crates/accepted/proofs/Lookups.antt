@@ -1,7 +1,7 @@
 -- What the table of accepted lines says of source events, traps, target events and routes, and the rules that the line behind it has met.
 use Rattle.std.specs.Prelude.{Option, Some, None}
 use Prim.Native.Nat.{ℕ, ◌≤◌, ◌<◌}
-use mathlib.Core.Bool.{Bool, true, false, ◌&&◌, ◌||◌}
+use mathlib.Core.Bool.{Bool, true, false, ◌&&◌, ◌||◌, or-false}
 use mathlib.Core.List.{List}
 use mathlib.Core.Path.{◌≡◌, refl, ap, ap₂, sym, subst, ◌∙◌}
 use native.Mathlib.Omega.{arith}
@@ -48,12 +48,8 @@ signal_of : (subject event kick n w : ℕ) (k : Bool) → signal_from subject ev
 unfolding signal_from signal_subject signal_event signal_kicks
 signal_of subject event kick n w k =
     by_cond (λ (x : Option Signal). x ≡ Some (record { subject = n; event = w; kick = k }) → (event ≡ none → ⊥) × ((subject ≡ n) × ((event ≡ w) × (eqb kick 1 ≡ k)))) (eqb event none) _ _
-    (λ t q. let z : ◌≡◌ {A = ℕ} 0 1 = cc in absurd (omega arith))
+    (λ t q. absurd cc)
     (λ t q. (eqb-false event none t, (ap signal_subject q, (ap signal_event q, ap signal_kicks q))))
-
-or-false : (a : Bool) → (a || false) ≡ true → a ≡ true
-or-false true t = refl
-or-false false t = t
 
 masking_fits : (irq : ℕ) → (leb irq 23 || eqb irq none) ≡ true → MaskingFits (masking_from irq)
 unfolding masking_from
@@ -96,33 +92,27 @@ module _ (e : List Record) (f : Fair e) (t : Means e) where
       → (n < (said_in e).counts.subjects) × ((s < (said_in e).counts.subjects) × ((n ≡ s → ⊥) × ((said_in e).group_of n ≡ (said_in e).group_of s)))
   unfolding event_back number_of target_of
   handover s event n q =
-      let b = behind s event (acting s event (action.Handover n) (λ z. apart z) q) in
+      let b = behind s event (acting s event (action.Handover n) (λ z. cc) q) in
       let x = source_event (table_of e) s event in
       let a : b.line.action ≡ 3 = ap (λ (v : EventLine). v.action) b.back ∙ ap number_of q in
       let o : b.line.target ≡ n = ap (λ (v : EventLine). v.target) b.back ∙ ap (λ (y : Action). target_of y (signal_subject x.signal)) q in
       let u : b.line.subject ≡ s = ap (λ (v : EventLine). v.subject) b.back in
       let h = b.held.handover a in
       (rw o at (b.held.target h.0), (rw u at b.held.subject, (rw o at (rw u at h.1.0), rw o at (rw u at h.1.1))))
-    where
-      apart : action.Handover n ≡ action.Nothing → ⊥
-      apart z = let y : ◌≡◌ {A = ℕ} 0 1 = cc in omega arith
 
   pub unmask : (s event : ℕ) (l : IrqLine) → (source_event (table_of e) s event).action ≡ action.Unmask l → l.0 ≤ 23
   unfolding event_back number_of unmasked
   unmask s event l q =
-      let b = behind s event (acting s event (action.Unmask l) (λ z. apart z) q) in
+      let b = behind s event (acting s event (action.Unmask l) (λ z. cc) q) in
       let a : b.line.action ≡ 4 = ap (λ (v : EventLine). v.action) b.back ∙ ap number_of q in
       let o : b.line.irq ≡ l.0 = ap (λ (v : EventLine). v.irq) b.back ∙ ap unmasked q in
       rw o at (b.held.irq (b.held.unmask a))
-    where
-      apart : action.Unmask l ≡ action.Nothing → ⊥
-      apart z = let y : ◌≡◌ {A = ℕ} 0 1 = cc in omega arith
 
   pub signalled : (s event n w : ℕ) (k : Bool) → (source_event (table_of e) s event).signal ≡ Some (record { subject = n; event = w; kick = k })
       → (n < (said_in e).counts.subjects) × ((s < (said_in e).counts.subjects) × ((w ≤ 31) × (k ≡ true → cpu_of_subject (said_in e) n ≡ cpu_of_subject (said_in e) s → ⊥)))
   unfolding source_from event_back
   signalled s event n w k q =
-      let b = behind s event (signalling s event (Some (record { subject = n; event = w; kick = k })) (λ z. apart z) q) in
+      let b = behind s event (signalling s event (Some (record { subject = n; event = w; kick = k })) (λ z. cc) q) in
       let g = signal_of b.line.target b.line.target_event b.line.kick n w k (ap (λ (x : SourceEvent). x.signal) b.says ∙ q) in
       let u : b.line.subject ≡ s = ap (λ (v : EventLine). v.subject) b.back in
       let l = b.held.target (b.held.whole g.0) in
@@ -130,9 +120,6 @@ module _ (e : List Record) (f : Fair e) (t : Means e) where
       let c : k ≡ true → cpu_of_subject (said_in e) b.line.target ≡ cpu_of_subject (said_in e) b.line.subject → ⊥
       = λ z. b.held.kick (eqb-true b.line.kick 1 (g.1.1.1 ∙ z)) in
       (rw g.1.0 at l, (rw u at b.held.subject, (rw g.1.1.0 at h, rw g.1.0 at (rw u at c))))
-    where
-      apart : ◌≡◌ {A = Option Signal} (Some (record { subject = n; event = w; kick = k })) None → ⊥
-      apart z = let y : ◌≡◌ {A = ℕ} 0 1 = cc in omega arith
 
   -- ---- traps, target events, routes
 
@@ -153,7 +140,7 @@ module _ (e : List Record) (f : Fair e) (t : Means e) where
   pub injected : (s event : ℕ) (v : SubjectVector) → target_event (table_of e) s event ≡ target.Inject v → (32 ≤ v.0) × (v.0 ≤ 255)
   unfolding kind_of in_range target_in_range target_back
   injected s event v q =
-      let b = t.targets.by (s, event) (λ z. apart (sym q ∙ z)) in
+      let b = t.targets.by (s, event) (λ z. let y = sym q ∙ z in cc) in
       let w = b.0.said in
       let h = held e (Target w) f b.0.among (omega arith) in
       let k : w ≡ target_back (s, event) (target.Inject v) = sym (target_back_lem (said_in e).counts w h.range) ∙ ap₂ target_back b.0.keyed (b.1 ∙ q) in
@@ -161,17 +148,14 @@ module _ (e : List Record) (f : Fair e) (t : Means e) where
       let z : w.vector ≡ v.0 = ap (λ (y : TargetLine). y.vector) k in
       let a = both (ltb w.subject _) _ h.range in
       let c = both (leb w.event 31) _ a.1 in
-      let d = both (leb 32 w.vector) _ (or-false _ (rw x at c.1)) in
+      let d = both (leb 32 w.vector) (leb w.vector 255) (sym (or-false (leb 32 w.vector && leb w.vector 255)) ∙ rw x at c.1) in
       (rw z at (leb-true 32 w.vector d.0), rw z at (leb-true w.vector 255 d.1))
-    where
-      apart : target.Inject v ≡ target.Nothing → ⊥
-      apart z = let y : ◌≡◌ {A = ℕ} 0 1 = cc in omega arith
 
   pub routed : (host : HostVector) (s : ℕ) (v : SubjectVector) (l : Option IrqLine) → route_of (table_of e) host ≡ Some (record { subject = s; vector = v; line = l })
       → (s < (said_in e).counts.subjects) × ((32 ≤ v.0) × ((v.0 ≤ 255) × MaskingFits l))
   unfolding kind_of in_range route_in_range routable route_from route_back route_line
   routed host s v l q =
-      let b = t.routes.by host (λ z. apart (sym q ∙ z)) in
+      let b = t.routes.by host (λ z. let y = sym q ∙ z in cc) in
       let w = b.0.said in
       let k : ◌≡◌ {A = Option routing.Route} (Some (route_from w)) (Some (record { subject = s; vector = v; line = l })) = b.1 ∙ q in
       let h = held e (Route w) f b.0.among (omega arith) in
@@ -185,6 +169,3 @@ module _ (e : List Record) (f : Fair e) (t : Means e) where
         rw x at (ltb-true w.subject _ c.0),
         (rw z at (leb-true 32 w.vector g.0), (rw z at (leb-true w.vector 255 g.1), subst MaskingFits m (masking_fits w.irq d.1))),
       )
-    where
-      apart : ◌≡◌ {A = Option routing.Route} (Some (record { subject = s; vector = v; line = l })) None → ⊥
-      apart z = let y : ◌≡◌ {A = ℕ} 0 1 = cc in omega arith

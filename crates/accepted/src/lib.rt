@@ -4,6 +4,7 @@
 ghost use Rattle.accepted.specs.Lawful.{Lawful};
 
 // No code: that a policy means its text, and has what the scheduler needs, is this function's contract.
+#[tactic(auto, using(crate::proofs::Laws::laws))]
 pub fn lawful()
     ensures { Lawful }
 {}
