@@ -102,25 +102,17 @@ whole_bytes text more n end w =
     let e : line_text bytes ++ (drop end text ++ more) ≡ text ++ more = sym (append_assoc (line_text bytes) (drop end text) more) ∙ ap (λ (t : List ℕ). t ++ more) (sym w.written) in
     rw (e, w.count) at b
 
-pub line_whole : (text : List ℕ) (n end : ℕ) → line_of text ≡ Whole n end → call_line text ≡ Some (record { heard = heard_in (take n (spelled text)); end = end })
+line_whole : (text : List ℕ) (n end : ℕ) → line_of text ≡ Whole n end → call_line text ≡ Some (record { heard = heard_in (take n (spelled text)); end = end })
 unfolding call_line call_in
 line_whole text n end e = rw e
 
-pub line_ill_formed : (text : List ℕ) (end : ℕ) → line_of text ≡ IllFormedLine end → call_line text ≡ Some (record { heard = None; end = end })
-unfolding call_line call_in
-line_ill_formed text end e = rw e
-
-pub line_none : (text : List ℕ) → line_of text ≡ UnendedLine → call_line text ≡ None
+line_none : (text : List ℕ) → line_of text ≡ UnendedLine → call_line text ≡ None
 unfolding call_line call_in
 line_none text e = rw e
 
-pub heard_ended : (text : List ℕ) (h : Option Call) (end : ℕ) → call_line text ≡ Some (record { heard = h; end = end }) → heard_of text ≡ h
+heard_ended : (text : List ℕ) (h : Option Call) (end : ℕ) → call_line text ≡ Some (record { heard = h; end = end }) → heard_of text ≡ h
 unfolding heard_of heard_from
 heard_ended text h end e = rw e
-
-pub heard_unended : (text : List ℕ) → call_line text ≡ None → heard_of text ≡ None
-unfolding heard_of heard_from
-heard_unended text e = rw e
 
 -- ---- what is written is heard
 
@@ -173,8 +165,7 @@ ill_formed text = (λ e c b. apart c (sym e ∙ begun text c b), λ f. of f (hea
   where
     apart : (c : Call) → None ≡ Some c → ⊥
     apart c e =
-        let z : ◌≡◌ {A = ℕ} 0 1 = cc in
-        omega arith
+        cc
 
     of : ((c : Call) → Begins text c → ⊥) → (h : Option Call) → Spoken text h → h ≡ None
     of f (Some c) s = absurd (f c s)

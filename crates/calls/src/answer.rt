@@ -1,4 +1,6 @@
 // The answers to calls.
+#![tactic(auto, unfolding(crate::specs::Answers::number_of, crate::specs::Answers::code_of))]
+
 ghost use Rattle.std.specs.Prelude.{◌≡◌};
 ghost use Rattle.calls.specs.Answers.{code_of, number_of};
 
@@ -15,30 +17,30 @@ pub struct Notes {
     pub kick: Option<u8>,
 }
 
-// Why nobody is entered on any CPU any more.
+// Why nobody is entered on any CPU any more, each with document 01's number.
 #[derive(Clone, Copy, Drop)]
 pub enum Reason {
-    Reboot,
-    PowerOff,
-    Panic,
+    Reboot = 1,
+    PowerOff = 2,
+    Panic = 3,
     // A trap above 59.
-    HighTrap,
+    HighTrap = 4,
 }
 
+// Why a call is refused, each with document 01's code.
 #[derive(Clone, Copy, Drop)]
 pub enum Refusal {
-    // 80: the policy handed in is one that no accepted text gives, or the state has something out of range.
-    OutOfRange,
-    // 81: a line ill formed, of an unknown kind or of the wrong length.
-    IllFormed,
-    // 82: no such CPU, major or partition.
-    NoSuch,
-    // 83: a flag that is not 00 or 01.
-    BadFlag,
-    // 84
-    Stopped,
-    // 85: a hypercall or trap with nobody entered.
-    NobodyEntered,
+    // The policy handed in is one that no accepted text gives, or the state has something out of range.
+    OutOfRange = 0x80,
+    // A line ill formed, of an unknown kind or of the wrong length.
+    IllFormed = 0x81,
+    // No such CPU, major or partition.
+    NoSuch = 0x82,
+    // A flag that is not 00 or 01.
+    BadFlag = 0x83,
+    Stopped = 0x84,
+    // A hypercall or trap with nobody entered.
+    NobodyEntered = 0x85,
 }
 
 #[derive(Clone, Copy, Drop)]
@@ -83,27 +85,15 @@ impl Reason {
     pub fn number(self) -> u8
         ensures { result ≡ number_of self }
     {
-        match self {
-            Reason::Reboot => 1,
-            Reason::PowerOff => 2,
-            Reason::Panic => 3,
-            Reason::HighTrap => 4,
-        }
+        self as u8
     }
 }
 
 impl Refusal {
-    // Document 01's code: 80 to 85 in hexadecimal.
+    // Document 01's code.
     pub fn code(self) -> u8
         ensures { result ≡ code_of self }
     {
-        match self {
-            Refusal::OutOfRange => 128,
-            Refusal::IllFormed => 129,
-            Refusal::NoSuch => 130,
-            Refusal::BadFlag => 131,
-            Refusal::Stopped => 132,
-            Refusal::NobodyEntered => 133,
-        }
+        self as u8
     }
 }

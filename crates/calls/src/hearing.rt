@@ -1,25 +1,27 @@
 // A call, heard from the line that a text begins with.
-ghost use Rattle.std.specs.Prelude.{◌≡◌, ◌∷◌, [], ◌≤◌, length, take};
+#![tactic(auto, unfolding(crate::specs::Calls::heard_in, crate::specs::Calls::call_in, crate::specs::Calls::call_line, crate::specs::Calls::heard_from, crate::specs::Calls::heard_of))]
+
+ghost use Rattle.std.specs.Prelude.{◌≡◌, ◌≤◌, length, take};
 ghost use Rattle.hexline.specs.Lines.{spelled};
 ghost use Rattle.calls.specs.Calls.{heard_in, call_line, heard_of};
 
 use crate::call::Call;
 use hexline::{Line, byte_at, read_line};
 
-// The kinds of call, as byte 0 of a line has them: 10 to 16 in hexadecimal.
-const TICK: u8 = 16;
+// The kinds of call, as byte 0 of a line has them.
+const TICK: u8 = 0x10;
 
-const HYPERCALL: u8 = 17;
+const HYPERCALL: u8 = 0x11;
 
-const TRAP: u8 = 18;
+const TRAP: u8 = 0x12;
 
-const INTERRUPT: u8 = 19;
+const INTERRUPT: u8 = 0x13;
 
-const CHOOSE: u8 = 20;
+const CHOOSE: u8 = 0x14;
 
-const REPORT: u8 = 21;
+const REPORT: u8 = 0x15;
 
-const MASKS: u8 = 22;
+const MASKS: u8 = 0x16;
 
 // A line of the text of calls, with its newline.
 #[derive(Clone, Copy, Drop)]
@@ -30,89 +32,47 @@ pub struct CallLine {
     pub end: usize,
 }
 
-// A line of one byte.
-fn heard_bare(kind: u8) -> Option<Call>
-    ensures { result ≡ heard_in (kind ∷ []) }
+// The call that has these bytes, the kind first.
+fn heard_in(bytes: &[u8]) -> Option<Call>
+    ensures { result ≡ heard_in bytes.now }
 {
-    if kind == MASKS {
-        return Some(Call::Masks);
-    }
-    None
-}
-
-// A line of two bytes: a kind and the number that it asks for.
-fn heard_number(kind: u8, number: u8) -> Option<Call>
-    ensures { result ≡ heard_in (kind ∷ number ∷ []) }
-{
-    match kind {
-        CHOOSE => Some(Call::Choose { major: number }),
-        REPORT => Some(Call::Report { partition: number }),
-        _ => None, // a tick without its flag too
-    }
-}
-
-// A line of three bytes.
-fn heard_tick(kind: u8, cpu: u8, flag: u8) -> Option<Call>
-    ensures { result ≡ heard_in (kind ∷ cpu ∷ flag ∷ []) }
-{
-    if kind == TICK {
-        return Some(Call::Tick { cpu, flag });
-    }
-    None
-}
-
-// A line of four bytes: an exit of a subject on a CPU, and its event, trap or vector.
-fn heard_exit(kind: u8, cpu: u8, number: u8, flag: u8) -> Option<Call>
-    ensures { result ≡ heard_in (kind ∷ cpu ∷ number ∷ flag ∷ []) }
-{
-    match kind {
-        HYPERCALL => Some(Call::Hypercall {
-            cpu,
-            event: number,
-            flag,
-        }),
-        TRAP => Some(Call::Trap {
-            cpu,
-            trap: number,
-            flag,
-        }),
-        INTERRUPT => Some(Call::Interrupt {
-            cpu,
-            vector: number,
-            flag,
-        }),
+    match *bytes {
+        [MASKS] => Some(Call::Masks),
+        [CHOOSE, major] => Some(Call::Choose { major }),
+        [REPORT, partition] => Some(Call::Report { partition }),
+        [TICK, cpu, flag] => Some(Call::Tick { cpu, flag }),
+        [HYPERCALL, cpu, event, flag] => Some(Call::Hypercall { cpu, event, flag }),
+        [TRAP, cpu, trap, flag] => Some(Call::Trap { cpu, trap, flag }),
+        [INTERRUPT, cpu, vector, flag] => Some(Call::Interrupt { cpu, vector, flag }),
         _ => None,
     }
 }
 
-// By the count of bytes of the line that the text begins with.
+// By the count of bytes of the line that the text begins with; no call has more than four.
+#[tactic(auto, using(crate::proofs::HearLaws::front, crate::proofs::HearLaws::no_call), unfolding(hexline::specs::Lines::byte_at))]
 fn heard_bytes(text: &[u8], count: usize) -> Option<Call>
     requires { count ≤ length (spelled text.now) }
     ensures { result ≡ heard_in (take count (spelled text.now)) }
 {
-    let kind = byte_at(text, 0);
-    let first = byte_at(text, 1);
-    let second = byte_at(text, 2);
-    let third = byte_at(text, 3);
-    match count {
-        1 => heard_bare(kind),
-        2 => heard_number(kind, first),
-        3 => heard_tick(kind, first, second),
-        4 => heard_exit(kind, first, second, third),
-        _ => None,
-    }
+    let bytes = [
+        byte_at(text, 0),
+        byte_at(text, 1),
+        byte_at(text, 2),
+        byte_at(text, 3),
+    ];
+    heard_in(bytes.get(..count)?)
 }
 
 // The line that the text begins with, if there is a newline in what is there.
+#[tactic(auto, using(crate::proofs::LineBytes::whole_long), unfolding(crate::specs::Calls::call_line, crate::specs::Calls::call_in))]
 pub fn call_line(text: &[u8]) -> Option<CallLine>
     ensures { result ≡ call_line text.now }
 {
-    let line = read_line(text);
-    match line {
-        Line::Whole { bytes, end } => {
-            let heard = heard_bytes(text, bytes);
-            Some(CallLine { heard, end })
-        }
+    match read_line(text) {
+        Line::Whole { bytes, end } => Some(CallLine {
+            heard: heard_bytes(text, bytes),
+            end,
+        }),
         Line::IllFormed { end } => Some(CallLine { heard: None, end }),
         Line::Unended => None,
     }
@@ -122,9 +82,5 @@ pub fn call_line(text: &[u8]) -> Option<CallLine>
 pub fn hear(line: &[u8]) -> Option<Call>
     ensures { result ≡ heard_of line.now }
 {
-    let ended = call_line(line);
-    let Some(CallLine { heard, end: _ }) = ended else {
-        return None;
-    };
-    heard
+    call_line(line)?.heard
 }

@@ -15,6 +15,7 @@ pub use hearing::{CallLine, call_line, hear};
 pub use write::{answer_bytes, put_answer};
 
 // No code: that calls and answers are told from their lines, and from nothing else, is this function's contract.
+#[tactic(auto, using(crate::proofs::Laws::laws))]
 pub fn lawful()
     ensures { Lawful }
 {}
