@@ -1,4 +1,6 @@
 // The ten kinds of policy line. A field is the line's byte, or two of them, as they stand: any value.
+#![tactic(auto, unfolding(crate::specs::Kinds::kind_of, crate::specs::Kinds::size_of))]
+
 ghost use Rattle.std.specs.Prelude.{◌≡◌};
 ghost use Rattle.records.specs.Kinds.{kind_of, size_of};
 
@@ -122,7 +124,7 @@ pub fn kind_of(rec: Record) -> u8
         Record::Trap(_) => TRAP,
         Record::Target(_) => TARGET,
         Record::Route(_) => ROUTE,
-        Record::End { count: _ } => END,
+        Record::End { .. } => END,
     }
 }
 

@@ -18,6 +18,7 @@ pub use read::{NoRecord, read_record};
 pub use write::{put_record, record_bytes, record_size};
 
 // No code: that records are read back as they were written, and that a line read is its record's line, is this function's contract.
+#[tactic(auto, using(crate::proofs::Laws::laws))]
 pub fn lawful()
     ensures { Lawful }
 {}

@@ -1,4 +1,6 @@
 // A record, read from the line that a text begins with.
+#![tactic(auto, unfolding(crate::specs::Kinds::header_in, crate::specs::Kinds::partition_in, crate::specs::Kinds::group_in, crate::specs::Kinds::subject_in, crate::specs::Kinds::frame_in, crate::specs::Kinds::event_in, crate::specs::Kinds::trap_in, crate::specs::Kinds::target_in, crate::specs::Kinds::route_in, crate::specs::Kinds::record_as, crate::specs::Kinds::record_of, crate::specs::RecordLines::record_line, crate::specs::RecordLines::record_in, hexline::specs::Lines::byte_at, hexline::specs::Lines::number_at))]
+
 ghost use Rattle.std.specs.Prelude.{◌≡◌};
 ghost use Rattle.hexline.specs.Lines.{spelled};
 ghost use Rattle.records.specs.Kinds.{header_in, partition_in, group_in, subject_in, frame_in, event_in, trap_in, target_in, route_in, record_as};
@@ -19,128 +21,118 @@ pub enum NoRecord {
     WrongKind,
 }
 
-fn read_header(text: &[u8]) -> Counts
-    ensures { result ≡ header_in (spelled text.now) }
-{
-    let cpus = byte_at(text, 1);
-    let subjects = byte_at(text, 2);
-    let groups = byte_at(text, 3);
-    let partitions = byte_at(text, 4);
-    let majors = byte_at(text, 5);
-    Counts {
-        cpus,
-        subjects,
-        groups,
-        partitions,
-        majors,
+impl Counts {
+    fn read(text: &[u8]) -> Counts
+        ensures { result ≡ header_in (spelled text.now) }
+    {
+        Counts {
+            cpus: byte_at(text, 1),
+            subjects: byte_at(text, 2),
+            groups: byte_at(text, 3),
+            partitions: byte_at(text, 4),
+            majors: byte_at(text, 5),
+        }
     }
 }
 
-fn read_partition(text: &[u8]) -> PartitionLine
-    ensures { result ≡ partition_in (spelled text.now) }
-{
-    let number = byte_at(text, 1);
-    let cpu = byte_at(text, 2);
-    PartitionLine { number, cpu }
-}
-
-fn read_group(text: &[u8]) -> GroupLine
-    ensures { result ≡ group_in (spelled text.now) }
-{
-    let number = byte_at(text, 1);
-    let partition = byte_at(text, 2);
-    GroupLine { number, partition }
-}
-
-fn read_subject(text: &[u8]) -> SubjectLine
-    ensures { result ≡ subject_in (spelled text.now) }
-{
-    let number = byte_at(text, 1);
-    let group = byte_at(text, 2);
-    let default_event = byte_at(text, 3);
-    SubjectLine {
-        number,
-        group,
-        default_event,
+impl PartitionLine {
+    fn read(text: &[u8]) -> PartitionLine
+        ensures { result ≡ partition_in (spelled text.now) }
+    {
+        PartitionLine {
+            number: byte_at(text, 1),
+            cpu: byte_at(text, 2),
+        }
     }
 }
 
-fn read_frame(text: &[u8]) -> FrameLine
-    ensures { result ≡ frame_in (spelled text.now) }
-{
-    let major = byte_at(text, 1);
-    let cpu = byte_at(text, 2);
-    let partition = byte_at(text, 3);
-    let length = number_at(text, 4);
-    FrameLine {
-        major,
-        cpu,
-        partition,
-        length,
+impl GroupLine {
+    fn read(text: &[u8]) -> GroupLine
+        ensures { result ≡ group_in (spelled text.now) }
+    {
+        GroupLine {
+            number: byte_at(text, 1),
+            partition: byte_at(text, 2),
+        }
     }
 }
 
-fn read_event(text: &[u8]) -> EventLine
-    ensures { result ≡ event_in (spelled text.now) }
-{
-    let subject = byte_at(text, 1);
-    let event = byte_at(text, 2);
-    let action = byte_at(text, 3);
-    let irq = byte_at(text, 4);
-    let target = byte_at(text, 5);
-    let target_event = byte_at(text, 6);
-    let kick = byte_at(text, 7);
-    EventLine {
-        subject,
-        event,
-        action,
-        irq,
-        target,
-        target_event,
-        kick,
+impl SubjectLine {
+    fn read(text: &[u8]) -> SubjectLine
+        ensures { result ≡ subject_in (spelled text.now) }
+    {
+        SubjectLine {
+            number: byte_at(text, 1),
+            group: byte_at(text, 2),
+            default_event: byte_at(text, 3),
+        }
     }
 }
 
-fn read_trap(text: &[u8]) -> TrapLine
-    ensures { result ≡ trap_in (spelled text.now) }
-{
-    let subject = byte_at(text, 1);
-    let trap = byte_at(text, 2);
-    let event = byte_at(text, 3);
-    TrapLine {
-        subject,
-        trap,
-        event,
+impl FrameLine {
+    fn read(text: &[u8]) -> FrameLine
+        ensures { result ≡ frame_in (spelled text.now) }
+    {
+        FrameLine {
+            major: byte_at(text, 1),
+            cpu: byte_at(text, 2),
+            partition: byte_at(text, 3),
+            length: number_at(text, 4),
+        }
     }
 }
 
-fn read_target(text: &[u8]) -> TargetLine
-    ensures { result ≡ target_in (spelled text.now) }
-{
-    let subject = byte_at(text, 1);
-    let event = byte_at(text, 2);
-    let action = byte_at(text, 3);
-    let vector = byte_at(text, 4);
-    TargetLine {
-        subject,
-        event,
-        action,
-        vector,
+impl EventLine {
+    fn read(text: &[u8]) -> EventLine
+        ensures { result ≡ event_in (spelled text.now) }
+    {
+        EventLine {
+            subject: byte_at(text, 1),
+            event: byte_at(text, 2),
+            action: byte_at(text, 3),
+            irq: byte_at(text, 4),
+            target: byte_at(text, 5),
+            target_event: byte_at(text, 6),
+            kick: byte_at(text, 7),
+        }
     }
 }
 
-fn read_route(text: &[u8]) -> RouteLine
-    ensures { result ≡ route_in (spelled text.now) }
-{
-    let host = byte_at(text, 1);
-    let subject = byte_at(text, 2);
-    let vector = byte_at(text, 3);
-    let irq = byte_at(text, 4);
-    RouteLine {
-        host,
-        subject,
-        vector,
-        irq,
+impl TrapLine {
+    fn read(text: &[u8]) -> TrapLine
+        ensures { result ≡ trap_in (spelled text.now) }
+    {
+        TrapLine {
+            subject: byte_at(text, 1),
+            trap: byte_at(text, 2),
+            event: byte_at(text, 3),
+        }
+    }
+}
+
+impl TargetLine {
+    fn read(text: &[u8]) -> TargetLine
+        ensures { result ≡ target_in (spelled text.now) }
+    {
+        TargetLine {
+            subject: byte_at(text, 1),
+            event: byte_at(text, 2),
+            action: byte_at(text, 3),
+            vector: byte_at(text, 4),
+        }
+    }
+}
+
+impl RouteLine {
+    fn read(text: &[u8]) -> RouteLine
+        ensures { result ≡ route_in (spelled text.now) }
+    {
+        RouteLine {
+            host: byte_at(text, 1),
+            subject: byte_at(text, 2),
+            vector: byte_at(text, 3),
+            irq: byte_at(text, 4),
+        }
     }
 }
 
@@ -149,15 +141,15 @@ fn read_fields(text: &[u8], kind: u8) -> Record
     ensures { result ≡ record_as kind (spelled text.now) }
 {
     match kind {
-        HEADER => Record::Header(read_header(text)),
-        PARTITION => Record::Partition(read_partition(text)),
-        GROUP => Record::Group(read_group(text)),
-        SUBJECT => Record::Subject(read_subject(text)),
-        FRAME => Record::Frame(read_frame(text)),
-        EVENT => Record::Event(read_event(text)),
-        TRAP => Record::Trap(read_trap(text)),
-        TARGET => Record::Target(read_target(text)),
-        ROUTE => Record::Route(read_route(text)),
+        HEADER => Record::Header(Counts::read(text)),
+        PARTITION => Record::Partition(PartitionLine::read(text)),
+        GROUP => Record::Group(GroupLine::read(text)),
+        SUBJECT => Record::Subject(SubjectLine::read(text)),
+        FRAME => Record::Frame(FrameLine::read(text)),
+        EVENT => Record::Event(EventLine::read(text)),
+        TRAP => Record::Trap(TrapLine::read(text)),
+        TARGET => Record::Target(TargetLine::read(text)),
+        ROUTE => Record::Route(RouteLine::read(text)),
         _ => Record::End {
             count: number_at(text, 1),
         },
@@ -168,13 +160,11 @@ fn read_fields(text: &[u8], kind: u8) -> Record
 pub fn read_record(text: &[u8]) -> Result<(Record, usize), NoRecord>
     ensures { result ≡ record_line text.now }
 {
-    let line = read_line(text);
-    let Line::Whole { bytes, end } = line else {
+    let Line::Whole { bytes, end } = read_line(text) else {
         return Err(NoRecord::IllFormed);
     };
     let kind = byte_at(text, 0);
-    let size = size_of(kind);
-    if bytes != size {
+    if bytes != size_of(kind) {
         return Err(NoRecord::WrongKind);
     }
     Ok((read_fields(text, kind), end))

@@ -1,8 +1,0 @@
--- `read_partition` meets its contract: the fields are the line's bytes, in their order.
-use Rattle.hexline.specs.Lines.{byte_at}
-use Rattle.records.specs.Kinds.{partition_in}
-use Rattle.records.proofs.read.read_partition.Goals as goal
-
-pub returns : goal.returns
-unfolding partition_in byte_at
-returns c = rw (c.byte_at-number.ensures, c.byte_at-cpu.ensures)
