@@ -1,32 +1,34 @@
 -- Whether a policy's own text gives it, found without the text: its lines are judged as they are read off the table, place by place.
 -- `Knowing` is what that loop keeps: what is left to judge gives what the whole gives.
-use Rattle.std.specs.Prelude.{Ok, Err}
+use Rattle.std.specs.Prelude.{Result, Ok, Err}
+use Rattle.std.specs.Result.{is_ok}
 use Prim.Native.Nat.{ℕ, zero, suc, ◌+◌, ◌-◌, ◌≤◌, ◌<◌}
-use mathlib.Core.Bool.{false}
+use mathlib.Core.Bool.{Bool, true, false, true≢false}
 use mathlib.Core.List.{List, [], ◌∷◌, ◌++◌, append_assoc, append-nil}
-use mathlib.Core.Path.{◌≡◌, refl, ap, ap₂, sym, ◌∙◌}
+use mathlib.Core.Path.{◌≡◌, refl, ap, sym, ◌∙◌}
 use native.Mathlib.Omega.{arith}
 use native.Mathlib.Numerals.{add-one}
-use lib.ListN.{length, get_or, set, replicate, length-append}
-use borrow.Author.Tests.{eq-eqb, ne_eqb}
+use lib.Dec.{eqb}
+use lib.Pointwise.{pointwise}
+use lib.ListN.{length, length-append}
 use Rattle.records.specs.declared.kind.Record.{Record}
 use Rattle.records.specs.declared.kind.Record.TheVariants.{End}
 use Rattle.records.specs.Kinds.{kind_of}
 use Rattle.rows.specs.Places.{row_count, place_of}
-use Rattle.rows.specs.Rows.{row_of, record_at}
 use Rattle.rows.specs.Lines.{table_of, line_at, lines_below, lines_in}
 use Rattle.rules.specs.declared.refusal.Refusal.{Refusal}
 use Rattle.rules.specs.Said.{last_kind}
-use Rattle.rules.specs.Rules.{judged, verdict}
-use Rattle.rules.specs.Tables.{said_by, behind}
-use Rattle.rules.proofs.Tied.{Tied, tied_start, tied_verdict, tied_put, tied_table, place_within}
-use Rattle.policy.specs.declared.value.Policy.{Policy}
+use Rattle.rules.specs.Rules.{verdict}
+use Rattle.rules.proofs.Tied.{tied_table}
+use Rattle.policy.specs.declared.table.Table.{Table}
 use Rattle.policy.specs.declared.reader.Reading.{Reading}
 use Rattle.policy.specs.Reads.{refusal, acceptance, policy_of, at_end, onward}
+use Rattle.policy.specs.Steps.{no_lines, verdict_by, progress_after, with_line}
 use Rattle.policy.specs.Writes.{all_lines, same_numbers, gives, known, known_rows}
+use Rattle.policy.proofs.TableLaws.{Holds, holds_none, by_lines, place_fits, holds_more}
 use Rattle.policy.proofs.Lines.{judge_all}
+use Rattle.policy.proofs.Theorems.{same_pointwise}
 use Rattle.policy.proofs.OwnText.{own_text_read, few_lines}
-use Rattle.policy.proofs.Theorems.{end_table}
 
 -- ---- the lines from a place on
 
@@ -45,14 +47,6 @@ all_from : (rows : List ℕ) → lines_in rows ≡ lines_from rows 0 row_count
 unfolding lines_in lines_below
 all_from rows = below_from rows 0 row_count
 
-line_none : (rows : List ℕ) (i : ℕ) → get_or rows i 0 ≡ 0 → line_at rows i ≡ []
-unfolding line_at
-line_none rows i q = rw (eq-eqb (get_or rows i 0) 0 q)
-
-line_one : (rows : List ℕ) (i : ℕ) → (get_or rows i 0 ≡ 0 → ⊥) → line_at rows i ≡ record_at i (get_or rows i 0) ∷ []
-unfolding line_at
-line_one rows i d = rw (ne_eqb (get_or rows i 0) 0 d)
-
 -- ---- what is left to judge
 
 -- the lines from a place on, and the last
@@ -65,102 +59,90 @@ left_step given i l =
     let z : row_count - i ≡ suc (row_count - suc i) = omega arith in
     rw z (append_assoc (line_at given i) (lines_from given (suc i) (row_count - suc i)) (End (length (lines_in given)) ∷ []))
 
-pub record Knowing (given rows : List ℕ) (kind next lines i : ℕ) : Type 0 where
+-- the lines judged so far, and what is left to judge gives what the whole gives
+pub record Knowing (given : List ℕ) (t : Table) (i : ℕ) : Type 0 where
   pub earlier : List Record
-  pub tied : Tied rows kind next lines earlier
-  pub upto : i ≤ row_count
-  pub count : lines ≡ length (lines_below given i)
-  pub rest : judge_all [] (all_lines given) ≡ judge_all earlier (left given i)
+  pub tied : Holds t earlier
+  pub count : t.done.lines ≡ length (lines_below given i)
+  pub rest : known_rows given ≡ gives (judge_all earlier (left given i)) (record { rows = given })
 
-pub knowing_start : (given : List ℕ) → Knowing given (replicate row_count 0) 0 0 0 0
-unfolding all_lines lines_below
+pub knowing_start : (given : List ℕ) → Knowing given no_lines 0
+unfolding no_lines all_lines lines_below known_rows known
 knowing_start given =
     record {
       earlier = [];
-      tied = tied_start;
-      upto = omega arith;
+      tied = holds_none;
       count = refl;
-      rest = ap (λ (l : List Record). judge_all [] (l ++ (End (length (lines_in given)) ∷ []))) (all_from given);
+      rest = ap (λ (x : Reading). gives x (record { rows = given })) (own_text_read (record { rows = given }))
+          ∙ ap (λ (l : List Record). gives (judge_all [] (l ++ (End (length (lines_in given)) ∷ []))) (record { rows = given })) (all_from given);
     }
 
--- a reading that is refused gives nothing
-refused_gives : (why : Refusal) (p : Policy) → gives (refusal why) p ≡ false
-unfolding gives refusal
-refused_gives why p = refl
-
-known_by : (given : List ℕ) → known_rows given ≡ gives (judge_all [] (all_lines given)) (record { rows = given })
-unfolding known_rows known
-known_by given = ap (λ (x : Reading). gives x (record { rows = given })) (own_text_read (record { rows = given }))
-
-module _ (given rows : List ℕ) (kind next lines i : ℕ) (g : Knowing given rows kind next lines i) where
-  pub few : lines ≤ i
+module _ (given : List ℕ) (t : Table) (i : ℕ) (g : Knowing given t i) where
+  pub few : t.done.lines ≤ i
   few = omega (arith, g.count, few_lines given i)
 
-  pub by_table : (line : ℕ) (r : Record) → line ≡ lines + 1 → judged (said_by rows) kind lines line (behind next r) r ≡ verdict g.earlier r
-  by_table line r q = tied_verdict rows kind next lines line g.earlier g.tied q r
+  pub fits : (r : Record) → verdict_by t r ≡ Ok tt → place_of t.done.next r ≤ row_count
+  fits = place_fits t g.earlier g.tied
 
-  pub place_fits : (r : Record) → verdict g.earlier r ≡ Ok tt → place_of next r ≤ row_count
-  place_fits r v = rw g.tied.next (place_within g.earlier r g.tied.fair v)
+  -- a line that is refused gives nothing
+  refused : (r : Record) (lines : List Record) (why : Refusal) → known_rows given ≡ gives (judge_all g.earlier (r ∷ lines)) (record { rows = given })
+      → Err why ≡ verdict_by t r → false ≡ known_rows given
+  unfolding judge_all onward gives refusal
+  refused r lines why k v = sym (k ∙ rw (sym (by_lines t g.earlier g.tied r) ∙ sym v))
 
   module _ (l : i < row_count) where
+    step : (lines : List Record) → line_at given i ≡ lines → known_rows given ≡ gives (judge_all g.earlier (lines ++ left given (suc i))) (record { rows = given })
+    step lines q = g.rest ∙ ap (λ (x : List Record). gives (judge_all g.earlier x) (record { rows = given })) (left_step given i l ∙ ap (λ (x : List Record). x ++ left given (suc i)) q)
+
     -- a place without a line
-    pub knowing_skip : get_or given i 0 ≡ 0 → Knowing given rows kind next lines (i + 1)
+    pub knowing_skip : line_at given i ≡ [] → Knowing given t (i + 1)
     unfolding lines_below
     knowing_skip q =
         rw (add-one i)
         (record {
           earlier = g.earlier;
           tied = g.tied;
-          upto = l;
-          count = g.count ∙ ap length (sym (ap (λ (x : List Record). lines_below given i ++ x) (line_none given i q) ∙ append-nil (lines_below given i)));
-          rest = g.rest ∙ ap (judge_all g.earlier) (left_step given i l ∙ ap (λ (x : List Record). x ++ left given (suc i)) (line_none given i q));
+          count = g.count ∙ ap length (sym (ap (λ (x : List Record). lines_below given i ++ x) q ∙ append-nil (lines_below given i)));
+          rest = step [] q;
         })
 
-    module _ (d : get_or given i 0 ≡ 0 → ⊥) where
-      rest_is : judge_all [] (all_lines given) ≡ onward (verdict g.earlier (record_at i (get_or given i 0))) (judge_all (record_at i (get_or given i 0) ∷ g.earlier) (left given (suc i)))
-      unfolding judge_all
-      rest_is = g.rest ∙ ap (judge_all g.earlier) (left_step given i l ∙ ap (λ (x : List Record). x ++ left given (suc i)) (line_one given i d))
+    -- one with a line, by what it gets
+    module _ (r : Record) (q : line_at given i ≡ r ∷ []) where
+      pub knowing_refused : (why : Refusal) → Err why ≡ verdict_by t r → false ≡ known_rows given
+      knowing_refused why = refused r (left given (suc i)) why (step (r ∷ []) q)
 
-      pub knowing_refused : (why : Refusal) → verdict g.earlier (record_at i (get_or given i 0)) ≡ Err why → known_rows given ≡ false
-      unfolding onward
-      knowing_refused why v =
-          known_by given ∙ ap (λ (x : Reading). gives x (record { rows = given })) (rest_is ∙ rw v) ∙ refused_gives why (record { rows = given })
-
-      pub knowing_on : verdict g.earlier (record_at i (get_or given i 0)) ≡ Ok tt
-          → Knowing given (set rows (place_of next (record_at i (get_or given i 0))) (row_of (record_at i (get_or given i 0)))) (kind_of (record_at i (get_or given i 0)))
-          (place_of next (record_at i (get_or given i 0)) + 1) (lines + 1) (i + 1)
-      unfolding onward lines_below
+      pub knowing_on : Ok tt ≡ verdict_by t r → Knowing given (with_line t r (Ok tt)) (i + 1)
+      unfolding with_line progress_after lines_below judge_all onward
       knowing_on v =
-          let more : length (lines_below given i ++ line_at given i) ≡ length (lines_below given i) + 1 =
-          ap (λ (x : List Record). length (lines_below given i ++ x)) (line_one given i d) ∙ length-append (lines_below given i) (record_at i (get_or given i 0) ∷ []) in
+          let accepted : verdict g.earlier r ≡ Ok tt = sym (by_lines t g.earlier g.tied r) ∙ sym v in
           rw (add-one i)
           (record {
-            earlier = record_at i (get_or given i 0) ∷ g.earlier;
-            tied = tied_put rows kind next lines g.earlier g.tied (record_at i (get_or given i 0)) v;
-            upto = l;
-            count = ap (λ (n : ℕ). n + 1) g.count ∙ sym more;
-            rest = rest_is ∙ rw v;
+            earlier = r ∷ g.earlier;
+            tied = holds_more t g.earlier g.tied r accepted;
+            count = ap (λ (n : ℕ). n + 1) g.count ∙ sym (ap (λ (x : List Record). length (lines_below given i ++ x)) q ∙ length-append (lines_below given i) (r ∷ []));
+            rest = step (r ∷ []) q ∙ rw accepted;
           })
 
-  -- at the end of the table
-  module _ (l : row_count ≤ i) where
-    ended : judge_all [] (all_lines given) ≡ onward (verdict g.earlier (End lines)) (judge_all (End lines ∷ g.earlier) [])
-    unfolding judge_all lines_from lines_in
-    ended =
-        let z : i ≡ row_count = omega (arith, g.upto) in
-        let n : length (lines_below given row_count) ≡ lines = ap (λ (k : ℕ). length (lines_below given k)) (sym z) ∙ sym g.count in
-        let none : row_count - i ≡ 0 = omega arith in
-        g.rest ∙ ap₂ (λ (k : ℕ) (c : ℕ). judge_all g.earlier (lines_from given i k ++ (End c ∷ []))) none n
+-- at the end of the table
+pub at_end_lem : (given : List ℕ) (t : Table) (i : ℕ) → Knowing given t i → row_count ≤ i → i ≤ row_count → Knowing given t row_count
+at_end_lem given t i g l m = let e : i ≡ row_count = omega arith in rw e at g
 
-    pub end_refused : (why : Refusal) → verdict g.earlier (End lines) ≡ Err why → known_rows given ≡ false
-    unfolding onward
-    end_refused why v =
-        known_by given ∙ ap (λ (x : Reading). gives x (record { rows = given })) (ended ∙ rw v) ∙ refused_gives why (record { rows = given })
+module _ (given : List ℕ) (t : Table) (g : Knowing given t row_count) where
+  ended : known_rows given ≡ gives (judge_all g.earlier (End t.done.lines ∷ [])) (record { rows = given })
+  unfolding lines_from lines_in
+  ended = g.rest ∙ ap (λ (c : ℕ). gives (judge_all g.earlier (End c ∷ [])) (record { rows = given })) (sym g.count)
 
-    pub end_accepted : verdict g.earlier (End lines) ≡ Ok tt → known_rows given ≡ same_numbers rows given
-    unfolding onward judge_all at_end policy_of gives acceptance last_kind kind_of
-    end_accepted v =
-        let q : judge_all [] (all_lines given) ≡ record { verdict = Ok tt; policy = record { rows = table_of (End lines ∷ g.earlier) } } = ended ∙ rw v in
-        known_by given
-        ∙ ap (λ (x : Reading). gives x (record { rows = given })) q
-        ∙ ap (λ (t : List ℕ). same_numbers t given) (end_table g.earlier lines ∙ sym (tied_table rows kind next lines g.earlier g.tied))
+  -- it is known where the last line is accepted and the table is the same
+  pub end_then : (answer : Result Unit Refusal) (new : Table) (same : Bool) → answer ≡ verdict_by t (End t.done.lines) → new ≡ with_line t (End t.done.lines) answer
+      → same ≡ pointwise eqb new.rows given → is_ok answer ≡ true → same ≡ known_rows given
+  unfolding onward judge_all at_end policy_of gives acceptance last_kind kind_of
+  end_then (Ok done) new same v n e k =
+      let accepted : verdict g.earlier (End t.done.lines) ≡ Ok tt = sym (by_lines t g.earlier g.tied (End t.done.lines)) ∙ sym v in
+      let table : new.rows ≡ table_of (End t.done.lines ∷ g.earlier) = ap (λ (x : Table). x.rows) n ∙ tied_table _ _ _ _ _ (holds_more t g.earlier g.tied (End t.done.lines) accepted) in
+      let whole : known_rows given ≡ same_numbers (table_of (End t.done.lines ∷ g.earlier)) given = ended ∙ rw accepted in
+      e ∙ same_pointwise new.rows given ∙ ap (λ (rows : List ℕ). same_numbers rows given) table ∙ sym whole
+  end_then (Err why) new same v n e k = absurd (true≢false (sym k))
+
+  pub end_else : (answer : Result Unit Refusal) (ok : Bool) → answer ≡ verdict_by t (End t.done.lines) → ok ≡ is_ok answer → ok ≡ false → ok ≡ known_rows given
+  end_else (Ok done) ok v e k = absurd (true≢false (sym e ∙ k))
+  end_else (Err why) ok v e k = k ∙ refused given t row_count g (End t.done.lines) [] why ended v

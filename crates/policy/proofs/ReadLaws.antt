@@ -8,21 +8,22 @@ use mathlib.Core.List.{List, [], ◌∷◌}
 use mathlib.Core.Path.{◌≡◌, refl, ap, sym, ◌∙◌}
 use native.Mathlib.Omega.{arith}
 use lib.Seq.{take_all, drop-drop}
-use lib.ListN.{length, take, drop, set, replicate, length-drop}
+use lib.ListN.{length, take, drop, length-drop}
 use borrow.Author.Tests.{eq-eqb, ne_eqb, lt-ltb, le-ltb}
 use Rattle.records.specs.declared.kind.Record.{Record}
-use Rattle.records.specs.Kinds.{kind_of}
+use Rattle.records.specs.Lawful.{GotLine}
 use Rattle.records.specs.RecordLines.{record_line}
 use Rattle.records.proofs.LineLaws.{got}
 use Rattle.rows.specs.Places.{row_count, place_of}
-use Rattle.rows.specs.Rows.{row_of}
 use Rattle.rules.specs.declared.refusal.Refusal.{Refusal}
 use Rattle.rules.specs.declared.refusal.Refusal.TheVariants.{TooLong, WrongKind}
 use Rattle.rules.specs.Said.{last_kind}
-use Rattle.rules.specs.Rules.{judged, verdict}
-use Rattle.rules.specs.Tables.{said_by, behind}
-use Rattle.rules.proofs.Tied.{Tied, tied_start, tied_verdict, tied_put, tied_table, place_within}
-use Rattle.policy.specs.Reads.{longest_text, used_of, lines_up_to, lines_of, refusal, acceptance, policy_of, at_end, onward, no_record, judge, read_of}
+use Rattle.rules.specs.Rules.{verdict}
+use Rattle.rules.proofs.Tied.{tied_table}
+use Rattle.policy.specs.declared.table.Table.{Table}
+use Rattle.policy.specs.Steps.{no_lines, verdict_by, progress_after, with_line}
+use Rattle.policy.proofs.TableLaws.{Holds, holds_none, by_lines, place_fits, holds_more}
+use Rattle.policy.specs.Reads.{longest_text, used_of, lines_up_to, lines_of, refusal, handed_up, acceptance, policy_of, at_end, onward, no_record, judge, read_of}
 
 -- ---- a text falls into its first line and the rest
 
@@ -81,83 +82,94 @@ unfolding judge lines_of lines_up_to
 judge_end e [] q = refl
 judge_end e (b ∷ text) q = absurd (omega arith)
 
--- the part from a start on is what is left there
-pub tail_is : (at : ℕ) (l : List ℕ) → take (length l - at) (drop at l) ≡ drop at l
-tail_is at l = take_all (length l - at) (drop at l) (omega (arith, length-drop at l))
-
 -- ---- the loop
 
 -- where the reader stands: at a place of the text, with its table tied to the lines read so far
-pub record Going (text rows : List ℕ) (kind next lines at : ℕ) : Type 0 where
+pub record Going (text : List ℕ) (t : Table) (at : ℕ) : Type 0 where
   pub earlier : List Record
-  pub tied : Tied rows kind next lines earlier
+  pub tied : Holds t earlier
   pub within : at ≤ length text
-  pub counted : lines ≤ at
+  pub counted : t.done.lines ≤ at
   pub left : read_of text ≡ judge earlier (lines_of (drop at text))
 
 pub too_long : (text : List ℕ) → longest_text < length text → read_of text ≡ refusal TooLong
 unfolding read_of
 too_long text h = rw (lt-ltb longest_text (length text) h)
 
-pub going_start : (text : List ℕ) → length text ≤ longest_text → Going text (replicate row_count 0) 0 0 0 0
-unfolding read_of
+pub going_start : (text : List ℕ) → length text ≤ longest_text → Going text no_lines 0
+unfolding read_of no_lines
 going_start text h =
-    record { earlier = []; tied = tied_start; within = omega arith; counted = omega arith; left = rw (le-ltb longest_text (length text) h) }
+    record { earlier = []; tied = holds_none; within = omega arith; counted = omega arith; left = rw (le-ltb longest_text (length text) h) }
 
-module _ (text rows : List ℕ) (kind next lines at : ℕ) (g : Going text rows kind next lines at) where
-  line_number : length g.earlier + 1 ≡ lines + 1
-  line_number = ap (λ (n : ℕ). n + 1) (sym g.tied.lines)
+module _ (text : List ℕ) (t : Table) (at : ℕ) (g : Going text t at) where
+  number : length g.earlier + 1 ≡ t.done.lines + 1
+  number = ap (λ (n : ℕ). n + 1) (sym g.tied.lines)
 
-  -- the verdict by the table
-  pub by_table : (line : ℕ) (r : Record) → line ≡ lines + 1 → judged (said_by rows) kind lines line (behind next r) r ≡ verdict g.earlier r
-  by_table line r q = tied_verdict rows kind next lines line g.earlier g.tied q r
+  pub going_fits : (r : Record) → verdict_by t r ≡ Ok tt → place_of t.done.next r ≤ row_count
+  going_fits = place_fits t g.earlier g.tied
 
-  module _ (l : at < length text) where
+  -- the line of the part that begins there
+  module _ (l : at < length text) (line : Result (Record × ℕ) NoRecord) (e : line ≡ record_line (take (length text - at) (drop at text))) where
     some_left : 0 < length (drop at text)
     some_left = omega (arith, length-drop at text)
 
-    pub going_no_record : (line : Result (Record × ℕ) NoRecord) → record_line (drop at text) ≡ line → ((r : Record) (end : ℕ) → line ≡ Ok (r, end) → ⊥) → read_of text ≡ no_record line (lines + 1)
-    going_no_record (Ok (r, end)) q d = absurd (d r end refl)
-    going_no_record (Err IllFormedLine) q d = g.left ∙ judge_ill_formed g.earlier (drop at text) some_left q ∙ ap (no_record (Err IllFormedLine)) line_number
-    going_no_record (Err WrongKindLine) q d = g.left ∙ judge_wrong_kind g.earlier (drop at text) some_left q ∙ ap (no_record (Err WrongKindLine)) line_number
+    line_is : record_line (drop at text) ≡ line
+    line_is = sym (e ∙ ap record_line (take_all (length text - at) (drop at text) (omega (arith, length-drop at text))))
 
-    going_got : (r : Record) (end : ℕ) → record_line (drop at text) ≡ Ok (r, end)
-        → read_of text ≡ onward (verdict g.earlier r) (judge (r ∷ g.earlier) (lines_of (drop end (drop at text))))
-    going_got r end q = g.left ∙ judge_got g.earlier (drop at text) some_left r end q
+    -- what comes of it where it is no record
+    ends : (other : Result (Record × ℕ) NoRecord) → line ≡ other → ((x : Record × ℕ) → other ≡ Ok x → ⊥) → no_record other (t.done.lines + 1) ≡ read_of text
+    ends (Ok x) q d = absurd (d x refl)
+    ends (Err IllFormedLine) q d = sym (g.left ∙ judge_ill_formed g.earlier (drop at text) some_left (line_is ∙ q) ∙ ap (no_record (Err IllFormedLine)) number)
+    ends (Err WrongKindLine) q d = sym (g.left ∙ judge_wrong_kind g.earlier (drop at text) some_left (line_is ∙ q) ∙ ap (no_record (Err WrongKindLine)) number)
 
-    pub going_refused : (r : Record) (end : ℕ) (why : Refusal) → record_line (drop at text) ≡ Ok (r, end) → verdict g.earlier r ≡ Err why → read_of text ≡ refusal why
-    unfolding onward
-    going_refused r end why q v = going_got r end q ∙ rw v
+    pub going_no_record : ((x : Record × ℕ) → line ≡ Ok x → ⊥) → no_record line (t.done.lines + 1) ≡ read_of text
+    going_no_record = ends line refl
 
-    -- one line more
-    pub going_on : (r : Record) (end : ℕ) → record_line (drop at text) ≡ Ok (r, end) → verdict g.earlier r ≡ Ok tt
-        → Going text (set rows (place_of next r) (row_of r)) (kind_of r) (place_of next r + 1) (lines + 1) (at + end)
-    unfolding onward
-    going_on r end q v =
-        let w = got (drop at text) r end q in
-        record {
-          earlier = r ∷ g.earlier;
-          tied = tied_put rows kind next lines g.earlier g.tied r v;
-          within = omega (arith, w.within, length-drop at text, g.within);
-          counted = omega (arith, w.some, g.counted);
-          left = going_got r end q ∙ rw v (ap (λ (s : List ℕ). judge (r ∷ g.earlier) (lines_of s)) (drop-drop end at text));
-        }
+    -- and where it is one
+    module _ (r : Record) (end : ℕ) (q : line ≡ Ok (r, end)) where
+      got_line : GotLine (drop at text) r end
+      got_line = got (drop at text) r end (line_is ∙ q)
 
-    pub going_place : (r : Record) → verdict g.earlier r ≡ Ok tt → place_of next r ≤ row_count
-    going_place r v = rw g.tied.next (place_within g.earlier r g.tied.fair v)
+      pub going_some : 0 < end
+      going_some = got_line.some
+
+      pub going_within : at + end ≤ length text
+      going_within = omega (arith, got_line.within, length-drop at text, g.within)
+
+      onward_is : read_of text ≡ onward (verdict g.earlier r) (judge (r ∷ g.earlier) (lines_of (drop end (drop at text))))
+      onward_is = g.left ∙ judge_got g.earlier (drop at text) some_left r end (line_is ∙ q)
+
+      pub going_refused : (answer : Result Unit Refusal) → answer ≡ verdict_by t r → ((x : Unit) → answer ≡ Ok x → ⊥) → handed_up answer ≡ read_of text
+      unfolding onward handed_up refusal
+      going_refused (Ok done) v d = absurd (d done refl)
+      going_refused (Err why) v d = sym (onward_is ∙ rw (sym (by_lines t g.earlier g.tied r) ∙ sym v))
+
+      pub going_on : Ok tt ≡ verdict_by t r → Going text (with_line t r (Ok tt)) (at + end)
+      unfolding onward with_line progress_after
+      going_on v =
+          let accepted : verdict g.earlier r ≡ Ok tt = sym (by_lines t g.earlier g.tied r) ∙ sym v in
+          record {
+            earlier = r ∷ g.earlier;
+            tied = holds_more t g.earlier g.tied r accepted;
+            within = going_within;
+            counted = omega (arith, got_line.some, g.counted);
+            left = onward_is ∙ rw accepted (ap (λ (s : List ℕ). judge (r ∷ g.earlier) (lines_of s)) (drop-drop end at text));
+          }
 
   module _ (l : length text ≤ at) where
     going_end : read_of text ≡ at_end g.earlier
     going_end = g.left ∙ judge_end g.earlier (drop at text) (omega (arith, length-drop at text))
 
-    pub end_accepted : kind ≡ 10 → read_of text ≡ acceptance (record { rows = rows })
+    pub end_accepted : t.done.kind ≡ 10 → acceptance (record { rows = t.rows }) ≡ read_of text
     unfolding at_end policy_of
     end_accepted k =
         let q : last_kind g.earlier ≡ 10 = sym g.tied.kind ∙ k in
-        going_end ∙ rw (eq-eqb (last_kind g.earlier) 10 q) (ap (λ (t : List ℕ). acceptance (record { rows = t })) (sym (tied_table rows kind next lines g.earlier g.tied)))
+        let e : read_of text ≡ acceptance (policy_of g.earlier) = going_end ∙ rw (eq-eqb (last_kind g.earlier) 10 q) in
+        ap (λ (rows : List ℕ). acceptance (record { rows = rows })) (tied_table _ _ _ _ _ g.tied) ∙ sym e
 
-    pub end_missing : (kind ≡ 10 → ⊥) → read_of text ≡ refusal (WrongKind (lines + 1))
+    pub end_missing : (t.done.kind ≡ 10 → ⊥) → refusal (WrongKind (t.done.lines + 1)) ≡ read_of text
     unfolding at_end
     end_missing h =
         let q : last_kind g.earlier ≡ 10 → ⊥ = λ z. h (g.tied.kind ∙ z) in
-        going_end ∙ rw (ne_eqb (last_kind g.earlier) 10 q) (ap (λ (n : ℕ). refusal (WrongKind n)) line_number)
+        let e : read_of text ≡ refusal (WrongKind (length g.earlier + 1)) = going_end ∙ rw (ne_eqb (last_kind g.earlier) 10 q) in
+        ap (λ (n : ℕ). refusal (WrongKind n)) (sym number) ∙ sym e

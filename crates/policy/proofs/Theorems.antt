@@ -3,14 +3,16 @@
 use Rattle.std.specs.Prelude.{Result, Ok, Err}
 use Rattle.rules.specs.declared.refusal.Refusal.{Refusal}
 use Prim.Native.Nat.{ℕ, ◌<◌}
-use mathlib.Core.Bool.{Bool, true, false, true≢false}
+use mathlib.Core.Bool.{Bool, true, false, ◌&&◌, true≢false}
 use mathlib.Core.List.{List, [], ◌∷◌, ◌++◌}
 use mathlib.Core.Logic.{◌↔◌}
 use mathlib.Core.Path.{◌≡◌, refl, ap, ap₂, sym, ◌∙◌}
 use native.Mathlib.Omega.{arith}
 use lib.Dec.{eqb}
+use lib.Pointwise.{pointwise}
 use lib.ListN.{length, length-append}
 use borrow.Author.Tests.{eqb-true, eq-eqb, not-false}
+use Rattle.std.specs.Cmp.Lexicographic.{same_text}
 use Rattle.hexline.proofs.Cond.{both}
 use Rattle.records.specs.declared.kind.Record.{Record}
 use Rattle.records.specs.declared.kind.Record.TheVariants.{Header, Partition, Group, Subject, Frame, Event, Trap, Target, Route, End}
@@ -97,14 +99,16 @@ accepted_text text p q =
 
 -- ---- what its own text gives
 
-same_numbers_lem : (x y : List ℕ) → same_numbers x y ≡ true → x ≡ y
+-- two tables are compared number by number
+pub same_pointwise : (x y : List ℕ) → pointwise eqb x y ≡ same_numbers x y
 unfolding same_numbers
-same_numbers_lem [] [] q = refl
-same_numbers_lem [] (b ∷ y) q = absurd (true≢false (sym q))
-same_numbers_lem (a ∷ x) [] q = absurd (true≢false (sym q))
-same_numbers_lem (a ∷ x) (b ∷ y) q =
-    let t = both (eqb a b) (same_numbers x y) q in
-    ap₂ (λ (n : ℕ) (l : List ℕ). n ∷ l) (eqb-true a b t.0) (same_numbers_lem x y t.1)
+same_pointwise [] [] = refl
+same_pointwise [] (b ∷ y) = refl
+same_pointwise (a ∷ x) [] = refl
+same_pointwise (a ∷ x) (b ∷ y) = ap (λ (t : Bool). eqb a b && t) (same_pointwise x y)
+
+same_numbers_lem : (x y : List ℕ) → same_numbers x y ≡ true → x ≡ y
+same_numbers_lem x y q = same_text x y (sym (same_pointwise x y ∙ q))
 
 numbers_same : (x : List ℕ) → same_numbers x x ≡ true
 unfolding same_numbers

@@ -1,19 +1,19 @@
 -- The lines of a table below a place, one place more: how many they are, and what they are written as. A table's text is that of
 -- its lines and then its last line's, so that a buffer with room for the text has room for each part; laid from the buffer's start
 -- it is what the writer's contract says.
-use Rattle.std.specs.Prelude.{Ok, Err}
+use Rattle.std.specs.Prelude.{Option, Some, None, Ok, Err}
 use Prim.Native.Nat.{ℕ, zero, suc, ◌+◌, ◌-◌, ◌*◌, ◌≤◌, ◌<◌}
 use mathlib.Core.Bool.{Bool, true, false}
-use mathlib.Core.List.{List, [], ◌∷◌, ◌++◌, append_assoc, append-nil}
+use mathlib.Core.List.{List, [], ◌∷◌, ◌++◌, append-nil}
 use mathlib.Core.Path.{◌≡◌, refl, ap, ap₂, sym, ◌∙◌}
 use native.Mathlib.Omega.{arith}
 use native.Mathlib.Numerals.{add-one}
-use lib.Dec.{eqb, leb}
-use lib.ListN.{length, get_or, drop, take, take-append-drop, length-append}
-use borrow.Author.Tests.{eq-eqb, ne_eqb, le-leb, lt-leb}
-use Rattle.hexline.specs.Writes.{line_text, lay, after, fits_at, put}
+use lib.Dec.{eqb}
+use lib.ListN.{length, get_or, drop, length-append}
+use borrow.Author.Tests.{le-leb, lt-leb}
+use Rattle.hexline.specs.Writes.{line_text, lay, after}
 use Rattle.hexline.proofs.Cond.{by_cond}
-use Rattle.hexline.proofs.LayLaws.{Laid, laid_none, laid_more, lay_over, pair}
+use Rattle.hexline.proofs.LayLaws.{Laid, laid_none, laid_more, lay_over}
 use Rattle.hexline.proofs.ByteLaws.{text_length}
 use Rattle.records.specs.declared.kind.Record.{Record}
 use Rattle.records.specs.declared.kind.Record.TheVariants.{End}
@@ -25,15 +25,10 @@ use Rattle.rows.specs.Lines.{line_at, lines_below, lines_in}
 use Rattle.rules.specs.declared.refusal.Refusal.TheVariants.{NotAPolicy, NoRoom}
 use Rattle.policy.specs.declared.value.Policy.{Policy}
 use Rattle.policy.specs.declared.writer.Size.{Size}
-use Rattle.policy.specs.Writes.{texts_of, all_lines, text_of, size_of, known, known_rows, write_of, written_of}
+use Rattle.policy.proofs.OwnText.{texts_append}
+use Rattle.policy.specs.Writes.{some_line, texts_of, all_lines, text_of, size_of, known, known_rows, write_of, written_of}
 
 -- ---- the text of some lines
-
-texts_append : (front back : List Record) → texts_of (front ++ back) ≡ texts_of front ++ texts_of back
-unfolding texts_of
-texts_append [] back = refl
-texts_append (r ∷ front) back =
-    ap (λ (l : List ℕ). line_text (bytes_of r) ++ l) (texts_append front back) ∙ sym (append_assoc (line_text (bytes_of r)) (texts_of front) (texts_of back))
 
 pub texts_one : (r : Record) → texts_of (r ∷ []) ≡ line_text (bytes_of r)
 unfolding texts_of
@@ -45,14 +40,14 @@ texts_none = refl
 
 -- ---- the line of a place
 
-pub line_none : (rows : List ℕ) (i row : ℕ) → row ≡ get_or rows i 0 → row ≡ 0 → line_at rows i ≡ []
-unfolding line_at
-line_none rows i row e z = rw (eq-eqb (get_or rows i 0) 0 (sym e ∙ z))
+module _ {lines : List Record} {line : Option Record} (e : some_line line ≡ lines) where
+  pub is_none : line ≡ None → lines ≡ []
+  unfolding some_line
+  is_none q = sym e ∙ rw q
 
-pub line_there : (rows : List ℕ) (i row : ℕ) (r : Record) → row ≡ get_or rows i 0 → (row ≡ 0 → ⊥) → r ≡ record_at i row → line_at rows i ≡ r ∷ []
-unfolding line_at
-line_there rows i row r e d q =
-    rw (ne_eqb (get_or rows i 0) 0 (λ z. d (e ∙ z))) (ap (λ (x : Record). x ∷ []) (sym (q ∙ ap (record_at i) e)))
+  pub is_some : {r : Record} → line ≡ Some r → lines ≡ r ∷ []
+  unfolding some_line
+  is_some q = sym e ∙ rw q
 
 -- a place has one line at most, and that at most 17 bytes
 record Little (lines : List Record) : Type 0 where
@@ -115,18 +110,17 @@ sized_more rows i lines bytes s line e =
     })
 
 -- a place without a line, and one with a line
-module _ (rows : List ℕ) (i lines bytes : ℕ) (s : Sized rows i lines bytes) (lines' bytes' : ℕ) where
-  pub sized_skip : line_at rows i ≡ [] → lines' ≡ lines → bytes' ≡ bytes → Sized rows (i + 1) lines' bytes'
-  sized_skip e n m =
-      let n' : lines' ≡ lines + 0 = omega arith in
-      let m' : bytes' ≡ bytes + length (texts_of []) = omega (arith, ap length texts_none) in
-      rw (n', m') (sized_more rows i lines bytes s [] e)
+module _ (rows : List ℕ) (i lines bytes : ℕ) (s : Sized rows i lines bytes) where
+  pub sized_skip : line_at rows i ≡ [] → Sized rows (i + 1) lines bytes
+  sized_skip e =
+      let n : lines ≡ lines + 0 = omega arith in
+      let m : bytes ≡ bytes + length (texts_of []) = omega (arith, ap length texts_none) in
+      rw (n, m) (sized_more rows i lines bytes s [] e)
 
-  pub sized_line : (r : Record) (size : ℕ) → line_at rows i ≡ r ∷ [] → size ≡ length (line_text (bytes_of r)) → lines' ≡ lines + 1 → bytes' ≡ bytes + size
-      → Sized rows (i + 1) lines' bytes'
-  sized_line r size e q n m =
-      let m' : bytes' ≡ bytes + length (texts_of (r ∷ [])) = omega (arith, ap length (texts_one r)) in
-      rw (n, m') (sized_more rows i lines bytes s (r ∷ []) e)
+  pub sized_line : (r : Record) (size : ℕ) → line_at rows i ≡ r ∷ [] → size ≡ length (line_text (bytes_of r)) → Sized rows (i + 1) (lines + 1) (bytes + size)
+  sized_line r size e q =
+      let m : bytes + size ≡ bytes + length (texts_of (r ∷ [])) = omega (arith, ap length (texts_one r)) in
+      rw m (sized_more rows i lines bytes s (r ∷ []) e)
 
 -- ---- a table's text
 
@@ -168,23 +162,6 @@ lines_fit p = omega (arith, all_length p.rows)
 
 -- ---- laid into a buffer
 
--- where there is no text to lay, nothing changes, with room or without
-after_nothing : (out : List ℕ) (at : ℕ) → at ≡ after out at []
-unfolding after fits_at
-after_nothing out at =
-    by_cond (λ (x : ℕ). at ≡ x) (leb (at + 0) (length out)) (at + 0) at (λ e. let z : at ≡ at + 0 = omega arith in z) (λ e. refl)
-
-lay_nothing : (out : List ℕ) (at : ℕ) → out ≡ lay out at []
-unfolding lay fits_at
-lay_nothing out at =
-    by_cond (λ (x : List ℕ). out ≡ x) (leb (at + 0) (length out)) (take at out ++ drop (at + 0) out) out
-    (λ e. let z : at + 0 ≡ at = omega arith in rw z (sym (take-append-drop at out))) (λ e. refl)
-
-pub put_none : (rows : List ℕ) (i : ℕ) (out : List ℕ) (at : ℕ) → line_at rows i ≡ [] → (at, out) ≡ put out at (texts_of (line_at rows i))
-put_none rows i out at e =
-    let t : texts_of (line_at rows i) ≡ [] = ap texts_of e ∙ texts_none in
-    rw t (pair (after_nothing out at) (lay_nothing out at))
-
 -- a place more takes no byte away
 below_less : (rows : List ℕ) (i k : ℕ) → length (texts_of (lines_below rows i)) ≤ length (texts_of (lines_below rows (i + k)))
 below_less rows i zero = let z : i + 0 ≡ i = omega arith in rw z (omega arith)
@@ -199,14 +176,25 @@ LaidBelow rows out₀ i out at = Laid out₀ 0 (texts_of (lines_below rows i)) o
 pub below_start : (rows out : List ℕ) → LaidBelow rows out 0 out 0
 below_start rows out = rw (text_below_none rows) (laid_none out 0 (omega arith))
 
-pub below_on : (rows out₀ : List ℕ) (i : ℕ) (out : List ℕ) (at : ℕ) → LaidBelow rows out₀ i out at → i < row_count → length (texts_of (lines_in rows)) ≤ length out₀
-    → (out' : List ℕ) (at' : ℕ) → at' ≡ after out at (texts_of (line_at rows i)) → out' ≡ lay out at (texts_of (line_at rows i)) → LaidBelow rows out₀ (i + 1) out' at'
-unfolding lines_in
-below_on rows out₀ i out at l h room out' at' e w =
-    let rest : suc i + (row_count - suc i) ≡ row_count = omega arith in
-    let less = rw rest at (below_less rows (suc i) (row_count - suc i)) in
-    let n = ap length (text_below_more rows i) ∙ length-append (texts_of (lines_below rows i)) (texts_of (line_at rows i)) in
-    rw (add-one, text_below_more rows i) (laid_more l (texts_of (line_at rows i)) out' at' (omega (arith, less, n, l.ends)) e w)
+module _ (rows out₀ : List ℕ) (i : ℕ) (out : List ℕ) (at : ℕ) (l : LaidBelow rows out₀ i out at) where
+  below_lines : (lines : List Record) → line_at rows i ≡ lines → texts_of (lines_below rows (i + 1)) ≡ texts_of (lines_below rows i) ++ texts_of lines
+  below_lines lines e = rw add-one (text_below_more rows i ∙ ap (λ (x : List Record). texts_of (lines_below rows i) ++ texts_of x) e)
+
+  pub below_skip : line_at rows i ≡ [] → LaidBelow rows out₀ (i + 1) out at
+  below_skip e =
+      let same : texts_of (lines_below rows (i + 1)) ≡ texts_of (lines_below rows i) = below_lines [] e ∙ ap (λ (x : List ℕ). texts_of (lines_below rows i) ++ x) texts_none ∙ append-nil _ in
+      rw same l
+
+  pub below_line : i < row_count → length (texts_of (lines_in rows)) ≤ length out₀ → (r : Record) → line_at rows i ≡ r ∷ []
+      → (out' : List ℕ) (at' : ℕ) → at' ≡ after out at (line_text (bytes_of r)) → out' ≡ lay out at (line_text (bytes_of r)) → LaidBelow rows out₀ (i + 1) out' at'
+  unfolding lines_in
+  below_line h room r e out' at' p w =
+      let rest : suc i + (row_count - suc i) ≡ row_count = omega arith in
+      let less = rw rest at (below_less rows (suc i) (row_count - suc i)) in
+      let more : texts_of (lines_below rows (i + 1)) ≡ texts_of (lines_below rows i) ++ line_text (bytes_of r) = below_lines (r ∷ []) e ∙ ap (λ (x : List ℕ). texts_of (lines_below rows i) ++ x) (texts_one r) in
+      let n = ap length more ∙ length-append (texts_of (lines_below rows i)) (line_text (bytes_of r)) in
+      let n' = rw add-one at n in
+      rw more (laid_more l (line_text (bytes_of r)) out' at' (omega (arith, less, n', l.ends)) p w)
 
 pub below_all : (rows out₀ : List ℕ) (i : ℕ) (out : List ℕ) (at : ℕ) → LaidBelow rows out₀ i out at → i ≡ row_count → Laid out₀ 0 (texts_of (lines_in rows)) out at
 unfolding lines_in

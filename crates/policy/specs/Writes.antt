@@ -1,6 +1,6 @@
 -- What a policy is written as: its lines in the text's order, and the count of them. A policy is known where its own text is
 -- accepted and gives it back. The writer answers "P0 before P9", and "a refused writing changes no byte".
-use Rattle.std.specs.Prelude.{ℕ, Bool, true, false, cond, ◌&&◌, List, [], ◌∷◌, ◌++◌, length, drop, leb, eqb, Result, Ok, Err}
+use Rattle.std.specs.Prelude.{ℕ, Bool, true, false, cond, ◌&&◌, List, [], ◌∷◌, ◌++◌, length, drop, leb, eqb, Option, Some, None, Result, Ok, Err}
 use Rattle.rules.specs.declared.refusal.Refusal.{Refusal}
 use Rattle.hexline.specs.Writes.{line_text}
 use Rattle.records.specs.declared.kind.Record.{Record}
@@ -12,6 +12,11 @@ use Rattle.policy.specs.declared.value.Policy.{Policy}
 use Rattle.policy.specs.declared.reader.Reading.{Reading}
 use Rattle.policy.specs.declared.writer.Size.{Size}
 use Rattle.policy.specs.Reads.{read_of}
+
+-- one line, or none
+unfoldable pub some_line : Option Record → List Record
+some_line (Some r) = r ∷ []
+some_line None = []
 
 -- the text of some lines
 unfoldable pub texts_of : List Record → List ℕ

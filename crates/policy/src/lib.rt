@@ -3,9 +3,10 @@
 
 ghost use Rattle.policy.specs.Lawful.{Lawful};
 
+mod line; // the line of a place
 pub mod own_text; // whether some accepted text gives a policy
 pub mod reader; // a text, read
-mod step; // one accepted line more
+mod table; // the table that accepted lines fill
 pub mod value; // the policy
 pub mod writer; // a policy, written
 
@@ -15,6 +16,7 @@ pub use value::Policy;
 pub use writer::write;
 
 // No code: that reader and writer are each other's inverse, and that a refusal leaves nothing behind, is this function's contract.
+#[tactic(auto, using(crate::proofs::Laws::laws))]
 pub fn lawful()
     ensures { Lawful }
 {}

@@ -1,10 +1,14 @@
 // The policy: one table, with a row for each line of its text (crate rows).
+#![tactic(auto, unfolding(crate::specs::Reads::zero_policy))]
+
 ghost use Rattle.std.specs.Prelude.{◌≡◌};
 ghost use Rattle.policy.specs.Reads.{zero_policy};
 
+use rows::ROWS;
+
 #[derive(Clone, Copy, Drop)]
 pub struct Policy {
-    pub rows: [u64; 2153],
+    pub rows: [u64; ROWS],
 }
 
 impl Policy {
@@ -12,7 +16,6 @@ impl Policy {
     pub fn zero() -> Policy
         ensures { result ≡ zero_policy }
     {
-        let rows = [0u64; 2153];
-        Policy { rows }
+        Policy { rows: [0; ROWS] }
     }
 }

@@ -1,69 +1,43 @@
 -- `known_rows` meets its contract. The loop's invariant, `Knowing`: the lines judged so far, and what is left to judge gives the whole.
-use Rattle.std.specs.Prelude.{Ok}
 use native.Mathlib.Omega.{arith}
-use mathlib.Core.Path.{◌≡◌, refl, sym, ◌∙◌}
-use lib.ListN.{get_or}
-use Rattle.records.specs.declared.kind.Record.TheVariants.{End}
-use Rattle.rows.specs.Rows.{record_at}
-use Rattle.rules.specs.Rules.{verdict}
-use Rattle.policy.specs.Steps.{progress_after}
-use Rattle.policy.proofs.KnownLaws.{knowing_start, few, by_table, place_fits, knowing_skip, knowing_refused, knowing_on, end_refused, end_accepted}
+use mathlib.Core.Path.{sym, ◌∙◌}
+use Rattle.policy.proofs.KnownLaws.{knowing_start, few, fits, knowing_skip, knowing_refused, knowing_on, at_end_lem, end_then, end_else}
+use Rattle.policy.proofs.WriteLaws.{is_none, is_some}
 use Rattle.policy.proofs.own_text.known_rows.Goals as goal
 
 pub loop-place-init : goal.loop-place-init
-loop-place-init c = knowing_start _
+loop-place-init c = rw c.empty-table.ensures (knowing_start _)
 
-pub loop-place-preserved-then-row-eq0 : goal.loop-place-preserved-then-row-eq0
-loop-place-preserved-then-row-eq0 c = knowing_skip _ _ _ _ _ _ c.loop-place.invariant (omega arith) (sym c.row_at-row.ensures ∙ c.if-row-eq0.true)
+pub loop-place-preserved-in_default : goal.loop-place-preserved-in_default
+loop-place-preserved-in_default c = knowing_skip _ _ _ c.loop-place.invariant (omega arith) (is_none c.line_at.ensures c.in_default.is)
 
-pub overflow_add-number : goal.overflow_add-number
-overflow_add-number c = omega (arith, few _ _ _ _ _ _ c.loop-place.invariant, c.loop-place.invariant.upto)
+pub add-requires-clause-place : goal.add-requires-clause-place
+add-requires-clause-place c = fits _ _ _ c.loop-place.invariant _
 
-pub slice_bounds-verdict_of-end : goal.slice_bounds-verdict_of-end
-slice_bounds-verdict_of-end c = sym c.loop-place.invariant.tied.size
+pub add-requires-clause-lines : goal.add-requires-clause-lines
+add-requires-clause-lines c = omega (arith, few _ _ _ c.loop-place.invariant)
 
-pub returns-in_default : goal.returns-in_default
-returns-in_default c =
-    let some : get_or c.args.given.now c.loop-place.place 0 ≡ 0 → ⊥ = λ q. (c.if-row-eq0.false (c.row_at-row.ensures ∙ q)) in
-    let at_verdict : c.verdict_of-verdict.result ≡ verdict c.loop-place.invariant.earlier (record_at c.loop-place.place (get_or c.args.given.now c.loop-place.place 0)) = (c.verdict_of-verdict.ensures
-    ∙ rw (c.record_at-rec.ensures, c.row_at-row.ensures) (by_table _ _ _ _ _ _ c.loop-place.invariant _ _ refl)) in
-    sym (knowing_refused _ _ _ _ _ _ c.loop-place.invariant (omega arith) some _ (sym at_verdict ∙ c.in_default.is))
-
-pub slice_bounds-put-end : goal.slice_bounds-put-end
-slice_bounds-put-end c = sym c.loop-place.invariant.tied.size
-
-pub put-after-requires : goal.put-after-requires
-put-after-requires c =
-    let accepted : verdict c.loop-place.invariant.earlier (record_at c.loop-place.place (get_or c.args.given.now c.loop-place.place 0)) ≡ Ok tt = (let at_verdict : c.verdict_of-verdict.result ≡ verdict c.loop-place.invariant.earlier (record_at c.loop-place.place (get_or c.args.given.now c.loop-place.place 0)) = (c.verdict_of-verdict.ensures
-    ∙ rw (c.record_at-rec.ensures, c.row_at-row.ensures) (by_table _ _ _ _ _ _ c.loop-place.invariant _ _ refl)) in
-    sym at_verdict ∙ c.in-Ok.is) in
-    (rw (c.record_at-rec.ensures, c.row_at-row.ensures) (place_fits _ _ _ _ _ _ c.loop-place.invariant _ accepted), omega (arith, few _ _ _ _ _ _ c.loop-place.invariant, c.loop-place.invariant.upto))
+pub returns-in_default-add : goal.returns-in_default-add
+returns-in_default-add c =
+    knowing_refused _ _ _ c.loop-place.invariant (omega arith) _ (is_some c.line_at.ensures c.in-Some.is) _ (sym c.in_default-add.is ∙ c.add.ensures.verdict)
 
 pub loop-place-preserved : goal.loop-place-preserved
-unfolding progress_after
 loop-place-preserved c =
-    let some : get_or c.args.given.now c.loop-place.place 0 ≡ 0 → ⊥ = λ q. (c.if-row-eq0.false (c.row_at-row.ensures ∙ q)) in
-    let accepted : verdict c.loop-place.invariant.earlier (record_at c.loop-place.place (get_or c.args.given.now c.loop-place.place 0)) ≡ Ok tt = (let at_verdict : c.verdict_of-verdict.result ≡ verdict c.loop-place.invariant.earlier (record_at c.loop-place.place (get_or c.args.given.now c.loop-place.place 0)) = (c.verdict_of-verdict.ensures
-    ∙ rw (c.record_at-rec.ensures, c.row_at-row.ensures) (by_table _ _ _ _ _ _ c.loop-place.invariant _ _ refl)) in
-    sym at_verdict ∙ c.in-Ok.is) in
-    rw (c.put-after.ensures.0, c.put-after.ensures.1, c.record_at-rec.ensures, c.row_at-row.ensures)
-    (knowing_on _ _ _ _ _ _ c.loop-place.invariant (omega arith) some accepted)
+    rw (c.add.ensures.table, c.in-Ok.is)
+    (knowing_on _ _ _ c.loop-place.invariant (omega arith) _ (is_some c.line_at.ensures c.in-Some.is) (sym c.in-Ok.is ∙ c.add.ensures.verdict))
 
-pub overflow_add-number-2 : goal.overflow_add-number-2
-overflow_add-number-2 c = omega (arith, few _ _ _ _ _ _ c.loop-place.invariant, c.loop-place.invariant.upto)
+pub add-requires-2-clause-place : goal.add-requires-2-clause-place
+add-requires-2-clause-place c = fits _ _ _ c.loop-place.invariant _
 
-pub slice_bounds-verdict_of-end-2 : goal.slice_bounds-verdict_of-end-2
-slice_bounds-verdict_of-end-2 c = sym c.loop-place.invariant.tied.size
+pub add-requires-2-clause-lines : goal.add-requires-2-clause-lines
+add-requires-2-clause-lines c = omega (arith, few _ _ _ c.loop-place.invariant)
 
-pub returns-in_default-verdict : goal.returns-in_default-verdict
-returns-in_default-verdict c =
-    let end_verdict : c.verdict_of-verdict-2.result ≡ verdict c.loop-place.invariant.earlier (End c.loop-place.done.lines) = c.verdict_of-verdict-2.ensures ∙ by_table _ _ _ _ _ _ c.loop-place.invariant _ _ refl in
-    sym (end_refused _ _ _ _ _ _ c.loop-place.invariant (omega arith) _ (sym end_verdict ∙ c.in_default-verdict.is))
+pub returns-then-is_ok : goal.returns-then-is_ok
+returns-then-is_ok c =
+    let g = at_end_lem _ _ _ c.loop-place.invariant c.loop-place-test.false c.loop-place.auto.place-end in
+    end_then _ _ g _ _ _ c.add-2.ensures.verdict c.add-2.ensures.table c.eq.ensures (sym c.is_ok.ensures.value ∙ c.if-is_ok.true)
 
-pub slice_bounds-same_rows-end : goal.slice_bounds-same_rows-end
-slice_bounds-same_rows-end c = sym c.loop-place.invariant.tied.size
-
-pub returns : goal.returns
-returns c =
-    let end_verdict : c.verdict_of-verdict-2.result ≡ verdict c.loop-place.invariant.earlier (End c.loop-place.done.lines) = c.verdict_of-verdict-2.ensures ∙ by_table _ _ _ _ _ _ c.loop-place.invariant _ _ refl in
-    c.same_rows.ensures ∙ sym (end_accepted _ _ _ _ _ _ c.loop-place.invariant (omega arith) (sym end_verdict ∙ c.in-Ok-verdict.is))
+pub returns-else-is_ok : goal.returns-else-is_ok
+returns-else-is_ok c =
+    let g = at_end_lem _ _ _ c.loop-place.invariant c.loop-place-test.false c.loop-place.auto.place-end in
+    end_else _ _ g _ _ c.add-2.ensures.verdict c.is_ok.ensures.value c.if-is_ok.false

@@ -27,6 +27,6 @@ returns c =
     let p = c.args.p in
     let size = c.text_size-size.ensures in
     let put = c.put_lines-at.ensures in
-    let last = c.put_record-length.ensures in
+    let last = c.put_record.ensures in
     wrote p _ is_known (omega (arith, size_bytes p _ size)) _ _ put.0 put.1
     _ (size_lines p _ size) _ _ (put_place last) (put_buffer last)
