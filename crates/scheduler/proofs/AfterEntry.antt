@@ -2,16 +2,17 @@
 -- An entry finds a group, which is awake and becomes active, or nobody, and then none of the partition is awake. A CPU that waited
 -- had nobody entered, since the state was in range.
 use Rattle.std.specs.Prelude.{Option, Some, None}
+use Rattle.std.proofs.lemmas.Option.{none-some}
+use Rattle.std.proofs.lemmas.Bool.{cond_both, and_parts}
 use Rattle.calls.specs.declared.answer.Reason.{Reason}
 use Prim.Native.Nat.{ℕ, zero, suc, ◌<◌}
-use mathlib.Core.Bool.{Bool, true, false, not, ◌&&◌, ◌||◌, true≢false, false≢true}
+use mathlib.Core.Bool.{Bool, true, false, not, ◌&&◌, ◌||◌, false≢true}
 use mathlib.Core.List.{List, [], ◌∷◌}
 use mathlib.Core.Path.{◌≡◌, refl, ap, sym, subst, ◌∙◌}
 use lib.Dec.{eqb, ltb}
 use lib.ListN.{get_or, set, length, length-set}
 use lib.Seq.{get_or-set_same}
 use borrow.Author.Tests.{eqb-true, leb-false}
-use Rattle.hexline.proofs.Cond.{by_cond, both}
 use Rattle.rows.specs.Lookups.{counts_of, partition_of}
 use Rattle.accepted.proofs.Numbers.{below_at}
 use Rattle.meaning.specs.declared.answer.SourceEvent.{SourceEvent}
@@ -70,10 +71,6 @@ waits_nobody rows s cpu e w = eqb-true _ _ (one_of (eqb (entered_on s cpu) nobod
 
 -- ---- an entry, by what is found
 
-abbrev somebody : Option ℕ → Bool
-somebody None = false
-somebody (Some group) = true
-
 -- where nobody is found, no group of the partition is awake
 none_awake : (rows : List ℕ) (s : Programs) (partition : ℕ) → chosen_group rows s partition ≡ None → active_group s partition < (counts_of rows).groups
     → (group : ℕ) → group < (counts_of rows).groups → partition_of rows group ≡ partition → (group_at s group).awake ≡ false
@@ -82,7 +79,7 @@ none_awake rows s partition e a group l h = go (group_at s group).awake refl
     go : (b : Bool) → (group_at s group).awake ≡ b → (group_at s group).awake ≡ false
     go true w =
         let o = rounds.somebody rows s partition group a l h w in
-        absurd (true≢false (sym (ap somebody o.1) ∙ ap somebody e))
+        absurd (none-some o.0 (sym e ∙ o.1))
     go false w = w
 
 active_moved : (s : State) (here group : ℕ) → here < length (set s.programs.actives here group)
@@ -133,7 +130,7 @@ module _ (rows : List ℕ) (cpu : ℕ) (notes : Notes) where
   pub entry_ends : (s : State) → Ends rows cpu (entry_of rows s cpu notes)
   unfolding entry_of with_entered
   entry_ends s =
-      by_cond (Ends rows cpu) (waiting s.clock cpu) _ _
+      cond_both (waiting s.clock cpu) _ _ (Ends rows cpu)
       (λ w. record { after = record { over = w; entered = nobody_there_lem s cpu }; ended = refl })
       (λ w. admitted_ends s (chosen_group rows s.programs (current_partition rows s.clock cpu)) w refl)
 
@@ -153,7 +150,7 @@ module _ (rows : List ℕ) (s : State) (cpu : ℕ) where
   trap_ends : (trap flag : ℕ) → Ends rows cpu (trap_call rows s cpu trap flag)
   unfolding trap_call event_handled stop
   trap_ends trap flag =
-      by_cond (Ends rows cpu) (ltb 59 trap) _ _ (λ t. record { after = tt; ended = refl }) (λ e. then_ends _ _ _ _ _)
+      cond_both (ltb 59 trap) _ _ (Ends rows cpu) (λ t. record { after = tt; ended = refl }) (λ e. then_ends _ _ _ _ _)
 
   interrupt_ends : (vector flag : ℕ) → Ends rows cpu (interrupt_call rows s cpu vector flag)
   unfolding interrupt_call
@@ -181,9 +178,9 @@ module _ (rows : List ℕ) (s : State) (cpu : ℕ) where
 entered_range : (p : Policy) (s : State) (cpu : ℕ) → usable p s ≡ true → cpu < (counts_of p.rows).cpus → entered_in_range p.rows s cpu ≡ true
 unfolding in_range
 entered_range p s cpu u l =
-    let a = (both (known p) (in_range p.rows s) u).1 in
-    let b = (both (clock_in_range p.rows s.clock) _ a).1 in
-    below_at _ _ (both (programs_in_range p.rows s.programs) _ b).1 cpu l
+    let a = (and_parts (known p) (in_range p.rows s) u).1 in
+    let b = (and_parts (clock_in_range p.rows s.clock) _ a).1 in
+    below_at _ _ (and_parts (programs_in_range p.rows s.programs) _ b).1 cpu l
 
 -- a call that is made on a CPU is made on that one
 there : (rows : List ℕ) (c cpu : ℕ) (r : Stepped) → eqb c cpu ≡ true → After rows c r → After rows cpu r

@@ -3,12 +3,12 @@
 -- and state; what a tick comes to is the clock's to say.
 use Rattle.std.specs.Prelude.{Option, Some, None}
 use Prim.Native.Nat.{ℕ, zero, suc}
-use mathlib.Core.Bool.{Bool, true, false, true≢false, false≢true}
+use mathlib.Core.Bool.{Bool, true, false, true≢false}
 use mathlib.Core.List.{List}
 use mathlib.Core.Path.{◌≡◌, refl, sym, subst, ◌∙◌}
 use lib.Dec.{eqb, ltb}
 use lib.ListN.{get_or, replicate}
-use Rattle.hexline.proofs.Cond.{by_cond}
+use Rattle.std.proofs.lemmas.Bool.{cond_both}
 use Rattle.meaning.specs.declared.answer.SourceEvent.{SourceEvent}
 use Rattle.clock.specs.declared.time.Clock.{Clock}
 use Rattle.clock.specs.declared.time.Tick.{Tick}
@@ -39,6 +39,12 @@ pub record Leaves (s : State) (k : Clock) (opened : Bool) (r : Stepped) : Type 0
   pub stopped : s.stopped ≡ false → r.state.stopped ≡ is_stopped r.answer
   pub nobody_after : is_stopped r.answer ≡ true → (cpu : ℕ) → entered_on r.state cpu ≡ nobody
 
+-- an answer that is neither a refusal nor a stop, and a state with the mark as it was
+pub no_stop_leaves : (s : State) (k : Clock) (o : Bool) (r : Stepped) → r.state.clock ≡ k → tells_new_frame r.answer ≡ o → is_refused r.answer ≡ false
+    → is_stopped r.answer ≡ false → r.state.stopped ≡ s.stopped → Leaves s k o r
+no_stop_leaves s k o r e f t a m =
+    record { clock = e; taken = t; frame = f; stopped = λ h. m ∙ h ∙ sym a; nobody_after = λ h. absurd (true≢false (sym h ∙ a)) }
+
 -- a call that goes on from a state that differs in programs, and in who is entered, alone
 pub carry : (s t : State) (k : Clock) (o : Bool) (r : Stepped) → t.clock ≡ k → t.stopped ≡ s.stopped → Leaves t t.clock o r → Leaves s k o r
 carry s t k o r e f l =
@@ -59,7 +65,7 @@ pub record Beside (s t : State) : Type 0 where
 pub flag_beside : (s : State) (cpu flag : ℕ) → Beside s (flag_stored s cpu flag)
 unfolding flag_stored with_programs
 flag_beside s cpu flag =
-    by_cond (Beside s) (eqb (entered_on s cpu) nobody) _ _ (λ t. record { clock = refl; stopped = refl })
+    cond_both (eqb (entered_on s cpu) nobody) _ _ (Beside s) (λ t. record { clock = refl; stopped = refl })
     (λ f. record { clock = refl; stopped = refl })
 
 pub alone_beside : (s : State) (cpu : ℕ) → Beside s (alone_on s cpu)
@@ -76,13 +82,13 @@ module _ (rows : List ℕ) (cpu : ℕ) (notes : Notes) where
   enters_leaves : (s : State) (subject : ℕ) → Leaves s s.clock notes.new_frame (enters rows s cpu subject notes)
   unfolding enters with_entered with_programs
   enters_leaves s subject =
-      record { clock = refl; taken = refl; frame = refl; stopped = λ h. h; nobody_after = λ h. absurd (false≢true h) }
+      no_stop_leaves s s.clock _ _ refl refl refl refl refl
 
   admitted_leaves : (s : State) (partition : ℕ) (found : Option ℕ)
       → Leaves s s.clock notes.new_frame (admitted rows s cpu partition notes found)
   unfolding admitted with_entered with_programs
   admitted_leaves s partition None =
-      record { clock = refl; taken = refl; frame = refl; stopped = λ h. h; nobody_after = λ h. absurd (false≢true h) }
+      no_stop_leaves s s.clock _ _ refl refl refl refl refl
   admitted_leaves s partition (Some group) =
       carry s (with_programs s (with_active s.programs partition group)) s.clock _ _ refl refl (enters_leaves _ _)
 
@@ -91,8 +97,8 @@ module _ (rows : List ℕ) (cpu : ℕ) (notes : Notes) where
       → Leaves s s.clock o (entry_of rows s cpu notes)
   unfolding entry_of with_entered
   entry_leaves s o e w =
-      by_cond (Leaves s s.clock o) (waiting s.clock cpu) _ _
-      (λ t. record { clock = refl; taken = refl; frame = sym (w t); stopped = λ h. h; nobody_after = λ h. absurd (false≢true h) })
+      cond_both (waiting s.clock cpu) _ _ (Leaves s s.clock o)
+      (λ t. no_stop_leaves s s.clock o _ refl (sym (w t)) refl refl refl)
       (λ f. subst (λ (b : Bool). Leaves s s.clock b (admitted rows s cpu (current_partition rows s.clock cpu) notes (chosen_group rows s.programs (current_partition rows s.clock cpu)))) e
       (admitted_leaves s _ _))
 
@@ -104,9 +110,9 @@ pub ticked_leaves : (rows : List ℕ) (s : State) (cpu flag : ℕ) (k : Clock) (
     → Leaves s k (opens what) (ticked_as rows s cpu flag k what)
 unfolding ticked_as with_clock
 ticked_leaves rows s cpu flag k tick.Wait t w b =
-    record { clock = sym (w refl); taken = refl; frame = refl; stopped = λ h. h; nobody_after = λ h. absurd (false≢true h) }
+    no_stop_leaves s k false _ (sym (w refl)) refl refl refl refl
 ticked_leaves rows s cpu flag k tick.GoOn t w b =
-    record { clock = refl; taken = refl; frame = refl; stopped = λ h. h; nobody_after = λ h. absurd (false≢true h) }
+    no_stop_leaves s k false _ refl refl refl refl refl
 ticked_leaves rows s cpu flag k tick.Moved t w b =
     let f = flag_beside (with_clock s k) cpu flag in
     carry s (flag_stored (with_clock s k) cpu flag) k false _ f.clock f.stopped (entry_leaves rows cpu plain _ false refl (λ h. refl))
@@ -159,7 +165,7 @@ unfolding trap_call
 trap_leaves rows s cpu trap flag =
     let f = flag_beside s cpu flag in
     carry s (flag_stored s cpu flag) s.clock false _ f.clock f.stopped
-    (by_cond (Leaves (flag_stored s cpu flag) (flag_stored s cpu flag).clock false) (ltb 59 trap) _ _ (λ t. stop_leaves _ _ HighTrap)
+    (cond_both (ltb 59 trap) _ _ (Leaves (flag_stored s cpu flag) (flag_stored s cpu flag).clock false) (λ t. stop_leaves _ _ HighTrap)
     (λ e. event_leaves rows _ cpu _ _ _))
 
 pub interrupt_leaves : (rows : List ℕ) (s : State) (cpu vector flag : ℕ) → Leaves s s.clock false (interrupt_call rows s cpu vector flag)

@@ -1,6 +1,7 @@
 -- Who is entered on CPUs that a call is not made on: a stored flag, a clock and programs leave it, an entry changes its own CPU's alone, an
 -- opening leaves nobody. That a frame was opened the answer tells, since the CPU of that tick does not wait then.
 use Rattle.std.specs.Prelude.{Option, Some, None}
+use Rattle.std.proofs.lemmas.Bool.{cond_both}
 use Rattle.calls.specs.declared.call.Call.{Call}
 use Prim.Native.Nat.{ℕ, ◌<◌}
 use mathlib.Core.Bool.{true, false, true≢false, false≢true}
@@ -8,7 +9,6 @@ use mathlib.Core.List.{List}
 use mathlib.Core.Path.{◌≡◌, refl, sym, ap, ◌∙◌}
 use lib.Dec.{eqb}
 use lib.Seq.{get_or-set_other}
-use Rattle.hexline.proofs.Cond.{by_cond}
 use Rattle.rows.specs.Lookups.{counts_of}
 use Rattle.accepted.specs.Facts.{Facts}
 use Rattle.clock.specs.declared.time.Clock.{Clock}
@@ -36,7 +36,7 @@ use Rattle.scheduler.proofs.LastingTest.{lasts_of}
 
 stored_entered : (s : State) (cpu flag c : ℕ) → entered_on (flag_stored s cpu flag) c ≡ entered_on s c
 unfolding flag_stored with_programs entered_on
-stored_entered s cpu flag c = by_cond (λ (t : State). entered_on t c ≡ entered_on s c) (eqb (entered_on s cpu) nobody) _ _ (λ e. refl) (λ e. refl)
+stored_entered s cpu flag c = cond_both (eqb (entered_on s cpu) nobody) _ _ (λ (t : State). entered_on t c ≡ entered_on s c) (λ e. refl) (λ e. refl)
 
 module _ (rows : List ℕ) (s : State) (cpu : ℕ) (notes : Notes) (c : ℕ) (d : c ≡ cpu → ⊥) where
   other : (t : State) (subject : ℕ) → entered_on (with_entered t cpu subject) c ≡ entered_on t c
@@ -51,7 +51,7 @@ module _ (rows : List ℕ) (s : State) (cpu : ℕ) (notes : Notes) (c : ℕ) (d 
   entry_entered : entered_on (entry_of rows s cpu notes).state c ≡ entered_on s c
   unfolding entry_of
   entry_entered =
-      by_cond (λ (t : Stepped). entered_on t.state c ≡ entered_on s c) (waiting s.clock cpu) _ _ (λ e. other s nobody)
+      cond_both (waiting s.clock cpu) _ _ (λ (t : Stepped). entered_on t.state c ≡ entered_on s c) (λ e. other s nobody)
       (λ e. admitted_entered (current_partition rows s.clock cpu) (chosen_group rows s.programs (current_partition rows s.clock cpu)))
 
 -- ---- the bit

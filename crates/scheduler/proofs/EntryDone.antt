@@ -8,7 +8,7 @@ use mathlib.Core.Logic.{◌⊎◌, inl, inr}
 use mathlib.Core.Path.{◌≡◌, refl, sym, ap, ◌∙◌}
 use native.Mathlib.Omega.{arith}
 use lib.ListN.{length}
-use Rattle.hexline.proofs.Cond.{by_cond}
+use Rattle.std.proofs.lemmas.Bool.{cond_both}
 use Rattle.rows.specs.Lookups.{counts_of, cpu_of, partition_of, group_of}
 use Rattle.accepted.specs.Facts.{Facts, cpu_of_subject}
 use Rattle.clock.specs.Time.{current_partition, waiting}
@@ -141,4 +141,4 @@ module _ (rows : List ℕ) (facts : Facts rows) (cpu : ℕ) (l : cpu < (counts_o
   pub entry_done : Entered rows cpu s (entry_of rows s cpu notes)
   unfolding entry_of
   entry_done =
-      by_cond (Entered rows cpu s) (waiting s.clock cpu) _ _ (λ e. none_entered _) (λ e. admits e (chosen_group rows s.programs here) refl)
+      cond_both (waiting s.clock cpu) _ _ (Entered rows cpu s) (λ e. none_entered _) (λ e. admits e (chosen_group rows s.programs here) refl)

@@ -7,8 +7,8 @@ use mathlib.Core.List.{List}
 use mathlib.Core.Path.{◌≡◌, refl, ap, sym, ◌∙◌}
 use lib.ListN.{length}
 use lib.Seq.{get_or-set_same}
+use Rattle.std.proofs.lemmas.Bool.{cond-true, cond-false}
 use Rattle.clock.specs.Time.{waiting, ticks_left, current_partition}
-use Rattle.clock.proofs.Choices.{cond_true, cond_false}
 use Rattle.programs.specs.declared.entering.Entering.{Entering}
 use Rattle.programs.specs.Parts.{active_subject, with_active}
 use Rattle.programs.specs.Round.{chosen_group}
@@ -43,12 +43,12 @@ module _ (rows : List ℕ) (s : State) (cpu : ℕ) (notes : Notes) where
 
   pub entry_waits : waiting s.clock cpu ≡ true → entry_of rows s cpu notes ≡ record { state = with_entered s cpu nobody; answer = Wait }
   unfolding entry_of
-  entry_waits w = cond_true (waiting s.clock cpu) _ _ w
+  entry_waits w = cond-true (waiting s.clock cpu) _ _ w
 
   pub entry_admits : (found : Option ℕ) → waiting s.clock cpu ≡ false → chosen_group rows s.programs here ≡ found
       → entry_of rows s cpu notes ≡ admitted rows s cpu here notes found
   unfolding entry_of
-  entry_admits found w e = cond_false (waiting s.clock cpu) _ _ w ∙ ap (admitted rows s cpu here notes) e
+  entry_admits found w e = cond-false (waiting s.clock cpu) _ _ w ∙ ap (admitted rows s cpu here notes) e
 
   abbrev into : ℕ → Entering
   into group = entering rows (with_active s.programs here group) (active_subject s.programs group)

@@ -1,13 +1,14 @@
 -- `lasting` by its parts, and who is then entered: the active subject of a CPU's current partition, which is a subject of that CPU.
 -- Whoever is entered stays in range where the CPU's place in the plan, that partition's active group and its active subject stay.
 use Prim.Native.Nat.{ℕ, ◌<◌}
-use mathlib.Core.Bool.{Bool, true, false, not, ◌&&◌, ◌||◌}
+use mathlib.Core.Bool.{true, not, ◌&&◌}
 use mathlib.Core.List.{List}
 use mathlib.Core.Logic.{◌⊎◌, inl, inr}
-use mathlib.Core.Path.{◌≡◌, refl, sym, ap, ◌∙◌}
+use mathlib.Core.Path.{◌≡◌, sym, ap, ◌∙◌}
 use lib.Dec.{eqb}
 use borrow.Author.Tests.{eq-eqb, eqb-true, not-true}
-use Rattle.hexline.proofs.Cond.{both}
+use Rattle.std.proofs.Math.Bool.{or-true}
+use Rattle.std.proofs.lemmas.Bool.{and_parts, or_cases}
 use Rattle.rows.specs.Lookups.{counts_of, cpu_of, partition_of}
 use Rattle.rules.specs.Rules.{all_below}
 use Rattle.accepted.specs.Facts.{Facts, cpu_of_subject}
@@ -36,35 +37,27 @@ pub record Lasts (rows : List ℕ) (s : State) : Type 0 where
 
 -- ---- the test
 
-or_case : (a b : Bool) → (a || b) ≡ true → (a ≡ true) ⊎ (b ≡ true)
-or_case true b e = inl refl
-or_case false b e = inr e
-
 module _ (rows : List ℕ) (s : State) where
   fits_of : (c : ℕ) → entered_in_range rows s c ≡ true → Fits rows s c
   unfolding entered_in_range
-  fits_of c e = go (or_case (eqb (entered_on s c) nobody) _ e)
+  fits_of c e = go (or_cases (eqb (entered_on s c) nobody) _ e)
     where
       go : (eqb (entered_on s c) nobody ≡ true) ⊎ ((not (waiting s.clock c) && eqb (entered_on s c) (active_on rows s c)) ≡ true) → Fits rows s c
       go (inl n) = inl (eqb-true _ _ n)
       go (inr a) =
-          let b = both (not (waiting s.clock c)) (eqb (entered_on s c) (active_on rows s c)) a in
+          let b = and_parts (not (waiting s.clock c)) (eqb (entered_on s c) (active_on rows s c)) a in
           inr (not-true (waiting s.clock c) b.0, eqb-true _ _ b.1)
 
   of_fits : (c : ℕ) → Fits rows s c → entered_in_range rows s c ≡ true
   unfolding entered_in_range
   of_fits c (inl n) = rw (eq-eqb (entered_on s c) nobody n)
   of_fits c (inr (runs, e)) = rw (runs, eq-eqb (entered_on s c) (active_on rows s c) e) (or-true (eqb (entered_on s c) nobody))
-    where
-      or-true : (a : Bool) → (a || true) ≡ true
-      or-true true = refl
-      or-true false = refl
 
   pub lasts_of : lasting rows s ≡ true → Lasts rows s
   unfolding lasting
   lasts_of e =
-      let a = both (clock.lasting_clock rows s.clock) _ e in
-      let b = both (programs_in_range rows s.programs) (all_below (counts_of rows).cpus (entered_in_range rows s)) a.1 in
+      let a = and_parts (clock.lasting_clock rows s.clock) _ e in
+      let b = and_parts (programs_in_range rows s.programs) (all_below (counts_of rows).cpus (entered_in_range rows s)) a.1 in
       record {
         clock = a.0;
         programs = (laws.sound.ranges rows s.programs).0 b.0;

@@ -9,7 +9,7 @@ use lib.Dec.{eqb}
 use lib.ListN.{replicate}
 use lib.Seq.{get_or-set_other}
 use borrow.Author.Tests.{eqb-false}
-use Rattle.hexline.proofs.Cond.{by_cond}
+use Rattle.std.proofs.lemmas.Bool.{cond_both}
 use Rattle.rows.specs.Lookups.{counts_of, cpu_of}
 use Rattle.meaning.specs.declared.answer.HostVector.{HostVector}
 use Rattle.meaning.specs.declared.answer.SourceEvent.{SourceEvent}
@@ -118,7 +118,7 @@ module _ (rows : List ℕ) (cpu : ℕ) (s : State) (r : Ready rows s) where
   pub stored_done : ((entered_on s cpu ≡ nobody → ⊥) → cpu_of_subject rows (entered_on s cpu) ≡ cpu) → (flag : ℕ) → Done rows cpu s (flag_stored s cpu flag)
   unfolding flag_stored
   stored_done own flag =
-      by_cond (Done rows cpu s) (eqb (entered_on s cpu) nobody) _ _ (λ e. nothing_done)
+      cond_both (eqb (entered_on s cpu) nobody) _ _ (Done rows cpu s) (λ e. nothing_done)
       (λ e. programs_done _ (laws.formed.stored s.programs (entered_on s cpu) _ r.formed.programs)
       (laws.sound.subject_range rows s.programs (entered_on s cpu) _ r.programs)
       (subject_untouched rows cpu s.programs (entered_on s cpu) _ (own (eqb-false _ _ e)))

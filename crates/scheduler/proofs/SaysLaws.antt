@@ -2,14 +2,13 @@
 -- call says. Of any table and state.
 -- Assumes nothing.
 use Rattle.std.specs.Prelude.{Option, Some, None}
+use Rattle.std.proofs.lemmas.Bool.{cond_both}
 use Rattle.calls.specs.declared.answer.Reason.{Reason}
 use Prim.Native.Nat.{ℕ, ◌<◌, ◌≤◌}
 use mathlib.Core.Bool.{Bool, true, false, true≢false}
 use mathlib.Core.List.{List}
 use mathlib.Core.Path.{◌≡◌, refl, ap, sym, subst, ◌∙◌}
-use lib.Dec.{eqb}
 use borrow.Author.Tests.{lt-ltb, le-ltb}
-use Rattle.hexline.proofs.Cond.{by_cond}
 use Rattle.meaning.specs.declared.answer.SourceEvent.{SourceEvent}
 use Rattle.meaning.specs.Answers.{no_event}
 use Rattle.meaning.specs.Lookups.{source_event}
@@ -24,13 +23,13 @@ use Rattle.calls.specs.declared.answer.Reason.TheVariants.{HighTrap}
 use Rattle.calls.specs.declared.answer.Answer.{Answer}
 use Rattle.calls.specs.declared.answer.Answer.TheVariants.{Stopped}
 use Rattle.calls.specs.declared.call.Call.TheVariants as call
-use Rattle.calls.specs.Answers.{nobody}
 use Rattle.scheduler.specs.declared.state.State.{State}
 use Rattle.scheduler.specs.declared.state.Stepped.{Stepped}
 use Rattle.scheduler.specs.States.{entered_on, with_programs, flag_stored}
 use Rattle.scheduler.specs.Entry.{enters, admitted, entry_of}
 use Rattle.scheduler.specs.Calls.{plain, new_frame, ticked_as, tick_call, stopping_of, kicked_by, stop, event_then, event_handled, hypercall_event, hypercall, advances, trap_source, trap_call, interrupt_call, called, refused}
 use Rattle.scheduler.specs.Says.{tells_advance, tells_kick, SaysOf, Says}
+use Rattle.scheduler.proofs.CallLeaves.{flag_beside}
 
 -- an answer tells these two
 record Tells (advance : Bool) (kicked : Option ℕ) (answer : Answer) : Type 0 where
@@ -60,15 +59,11 @@ module _ (rows : List ℕ) (cpu : ℕ) (notes : Notes) where
       → (waiting s.clock cpu ≡ true → (advance ≡ false) × (kicked ≡ None)) → Tells advance kicked (entry_of rows s cpu notes).answer
   unfolding entry_of
   entry_tells s advance kicked a k w =
-      by_cond (λ (r : Stepped). Tells advance kicked r.answer) (waiting s.clock cpu) _ _
+      cond_both (waiting s.clock cpu) _ _ (λ (r : Stepped). Tells advance kicked r.answer)
       (λ t. record { advances = sym (w t).0; kicks = sym (w t).1 })
       (λ f. running_tells s advance kicked a k)
 
 -- ---- the calls
-
-flag_clock : (s : State) (cpu flag : ℕ) → (flag_stored s cpu flag).clock ≡ s.clock
-unfolding flag_stored with_programs
-flag_clock s cpu flag = by_cond (λ (t : State). t.clock ≡ s.clock) (eqb (entered_on s cpu) nobody) _ _ (λ t. refl) (λ f. refl)
 
 ticked_tells : (rows : List ℕ) (s : State) (cpu flag : ℕ) (k : Clock) (what : Tick) → Tells false None (ticked_as rows s cpu flag k what).answer
 unfolding ticked_as refused
@@ -102,7 +97,7 @@ handled_says : (rows : List ℕ) (s : State) (cpu flag subject : ℕ) (event : S
 unfolding event_handled
 handled_says rows s cpu flag subject event advance w =
     then_says rows (flag_stored s cpu flag) cpu subject event advance (stopping_of event.action)
-    (ap (λ (k : Clock). waiting k cpu) (flag_clock s cpu flag) ∙ w)
+    (ap (λ (k : Clock). waiting k cpu) (flag_beside s cpu flag).clock ∙ w)
 
 hypercall_says : (rows : List ℕ) (s : State) (cpu event flag : ℕ) (source : SourceEvent) → hypercall_event rows (entered_on s cpu) event ≡ source
     → waiting s.clock cpu ≡ false → SaysOf rows source true (called rows s (call.Hypercall cpu event flag)).answer

@@ -1,13 +1,13 @@
 -- Soundness. A fresh state is lasting by its clock and its programs, with nobody entered; what every call does keeps it so (`CallDone`); and a
 -- lasting state is in range. So after whatever calls from the start the state is usable, and 80 is answered only where it is not.
 use Rattle.std.specs.Prelude.{Option}
+use Rattle.std.proofs.lemmas.Bool.{and_parts}
 use Rattle.calls.specs.declared.call.Call.{Call}
 use Prim.Native.Nat.{ℕ}
 use mathlib.Core.Bool.{true, ◌&&◌, true≢false}
 use mathlib.Core.List.{List, [], ◌∷◌}
 use mathlib.Core.Logic.{inl}
 use mathlib.Core.Path.{◌≡◌, sym, ap, ◌∙◌}
-use Rattle.hexline.proofs.Cond.{both}
 use Rattle.rows.specs.Lookups.{counts_of}
 use Rattle.rules.specs.Rules.{all_below}
 use Rattle.policy.specs.declared.value.Policy.{Policy}
@@ -44,7 +44,7 @@ fresh_lasting rows facts =
 lasting_range : (rows : List ℕ) (s : State) → lasting rows s ≡ true → in_range rows s ≡ true
 unfolding lasting in_range
 lasting_range rows s e =
-    let a = both (lasting_clock rows s.clock) (programs_in_range rows s.programs && all_below (counts_of rows).cpus (entered_in_range rows s)) e in
+    let a = and_parts (lasting_clock rows s.clock) (programs_in_range rows s.programs && all_below (counts_of rows).cpus (entered_in_range rows s)) e in
     rw (clock.lasting_range rows s.clock a.0) a.1
 
 served_lasting : (rows : List ℕ) (s : State) (h : Option Call) → Facts rows → Formed s → lasting rows s ≡ true → lasting rows (served rows s h).state ≡ true

@@ -3,9 +3,8 @@
 use Rattle.std.specs.Prelude.{Option, Some, None}
 use mathlib.Core.Bool.{true, false, true≢false}
 use mathlib.Core.Path.{◌≡◌, refl}
-use Rattle.hexline.proofs.Cond.{by_cond, both}
+use Rattle.std.proofs.lemmas.Bool.{cond_both, and_parts, cond-true, cond-false}
 use Rattle.clock.specs.Time.{clock_in_range}
-use Rattle.clock.proofs.Choices.{cond_true, cond_false}
 use Rattle.policy.specs.declared.value.Policy.{Policy}
 use Rattle.policy.specs.Writes.{known}
 use Rattle.accepted.specs.Facts.{Facts}
@@ -28,19 +27,19 @@ use Rattle.scheduler.proofs.TickTaken.{ClockRange, clock_range, called_leaves}
 
 pub step_served : (p : Policy) (s : State) (h : Option Call) → usable p s ≡ true → step_of p s h ≡ served p.rows s h
 unfolding step_of
-step_served p s h u = cond_true (usable p s) _ _ u
+step_served p s h u = cond-true (usable p s) _ _ u
 
 pub step_refused : (p : Policy) (s : State) (h : Option Call) → usable p s ≡ false → step_of p s h ≡ refused s OutOfRange
 unfolding step_of
-step_refused p s h u = cond_false (usable p s) _ _ u
+step_refused p s h u = cond-false (usable p s) _ _ u
 
 pub usable_facts : (p : Policy) (s : State) → usable p s ≡ true → Facts p.rows
-usable_facts p s u = (accepted.laws).facts p (both (known p) (in_range p.rows s) u).0
+usable_facts p s u = (accepted.laws).facts p (and_parts (known p) (in_range p.rows s) u).0
 
 pub usable_clock : (p : Policy) (s : State) → usable p s ≡ true → ClockRange p.rows s.clock
 unfolding in_range
 usable_clock p s u =
-    clock_range p.rows s.clock (both (clock_in_range p.rows s.clock) _ (both (known p) (in_range p.rows s) u).1).0
+    clock_range p.rows s.clock (and_parts (clock_in_range p.rows s.clock) _ (and_parts (known p) (in_range p.rows s) u).1).0
 
 -- ---- 80 to 85
 
@@ -59,18 +58,18 @@ pub call_cases : (P : Stepped → Type 0) (p : Policy) (s : State) (c : Call) �
     → (Fine p s c → P (called p.rows s c)) → P (step_of p s (Some c))
 unfolding step_of served answered
 call_cases P p s c out on =
-    by_cond P (usable p s) _ _
-    (λ u. by_cond P (no_such p.rows c) _ _ (λ t. out NoSuch)
-    (λ n. by_cond P (bad_flag c) _ _ (λ t. out BadFlag)
-    (λ b. by_cond P (after_stop s c) _ _ (λ t. out Stopped)
-    (λ a. by_cond P (nobody_there s c) _ _ (λ t. out NobodyEntered)
+    cond_both (usable p s) _ _ P
+    (λ u. cond_both (no_such p.rows c) _ _ P (λ t. out NoSuch)
+    (λ n. cond_both (bad_flag c) _ _ P (λ t. out BadFlag)
+    (λ b. cond_both (after_stop s c) _ _ P (λ t. out Stopped)
+    (λ a. cond_both (nobody_there s c) _ _ P (λ t. out NobodyEntered)
     (λ e. on (record { in_range_lem = u; passes = record { there = n; flagged = b; goes_on = a; somebody = e } }))))))
     (λ u. out OutOfRange)
 
 -- a line that is no call
 pub line_cases : (P : Stepped → Type 0) (p : Policy) (s : State) → ((why : Refusal) → P (refused s why)) → P (step_of p s None)
 unfolding step_of served
-line_cases P p s out = by_cond P (usable p s) _ _ (λ u. out IllFormed) (λ u. out OutOfRange)
+line_cases P p s out = cond_both (usable p s) _ _ P (λ u. out IllFormed) (λ u. out OutOfRange)
 
 -- whatever was heard
 pub step_cases : (P : Stepped → Type 0) (p : Policy) (s : State) (h : Option Call) → ((why : Refusal) → P (refused s why))

@@ -1,6 +1,7 @@
 -- A step keeps the arrays of a state as long as their types say: each maker of a state stores at one place of an array, or makes a new one
 -- of that length.
 use Rattle.std.specs.Prelude.{Option, Some, None}
+use Rattle.std.proofs.lemmas.Bool.{cond_both}
 use Rattle.calls.specs.declared.call.Call.{Call}
 use Prim.Native.Nat.{ℕ}
 use mathlib.Core.Bool.{◌&&◌}
@@ -8,7 +9,6 @@ use mathlib.Core.List.{List}
 use mathlib.Core.Path.{refl, ◌∙◌}
 use lib.Dec.{eqb}
 use lib.ListN.{length-set}
-use Rattle.hexline.proofs.Cond.{by_cond}
 use Rattle.policy.specs.declared.value.Policy.{Policy}
 use Rattle.policy.specs.Writes.{known}
 use Rattle.clock.specs.declared.time.Clock.{Clock}
@@ -49,7 +49,7 @@ module _ (s : State) (f : Formed s) where
   pub stored_formed : (cpu flag : ℕ) → Formed (flag_stored s cpu flag)
   unfolding flag_stored
   stored_formed cpu flag =
-      by_cond Formed (eqb (entered_on s cpu) nobody) _ _ (λ e. f)
+      cond_both (eqb (entered_on s cpu) nobody) _ _ Formed (λ e. f)
       (λ e. programs_formed _ (laws.formed.stored s.programs (entered_on s cpu) _ f.programs))
 
   pub alone_formed : (cpu : ℕ) → Formed (alone_on s cpu)
@@ -77,7 +77,7 @@ module _ (rows : List ℕ) (s : State) (f : Formed s) (cpu : ℕ) (notes : Notes
   pub entry_formed : Formed (entry_of rows s cpu notes).state
   unfolding entry_of
   entry_formed =
-      (by_cond Forms (waiting s.clock cpu) _ _ (λ e. record { state = entered_formed s f cpu nobody })
+      (cond_both (waiting s.clock cpu) _ _ Forms (λ e. record { state = entered_formed s f cpu nobody })
       (λ e. admitted_formed (current_partition rows s.clock cpu) (chosen_group rows s.programs (current_partition rows s.clock cpu)))).state
 
 -- ---- a step
@@ -106,7 +106,7 @@ served_formed rows s h f =
 pub step_formed : (p : Policy) (s : State) (h : Option Call) → Formed s → Formed (step_of p s h).state
 unfolding step_of refused
 step_formed p s h f =
-    (by_cond Forms (known p && in_range p.rows s) _ _ (λ e. record { state = served_formed p.rows s h f }) (λ e. record { state = f })).state
+    (cond_both (known p && in_range p.rows s) _ _ Forms (λ e. record { state = served_formed p.rows s h f }) (λ e. record { state = f })).state
 
 pub fresh_formed : (rows : List ℕ) → Formed (fresh_state rows)
 unfolding fresh_state

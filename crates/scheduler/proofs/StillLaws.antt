@@ -9,13 +9,13 @@ use native.Mathlib.Omega.{arith}
 use lib.Dec.{ltb, leb, eqb}
 use lib.ListN.{length}
 use borrow.Author.Tests.{lt-leb, le-ltb}
-use Rattle.hexline.proofs.Cond.{by_cond}
+use Rattle.std.proofs.lemmas.Option.{none-some}
+use Rattle.std.proofs.lemmas.Bool.{cond_both, cond-false}
 use Rattle.rows.specs.Lookups.{counts_of}
 use Rattle.meaning.specs.declared.answer.HostVector.{HostVector}
 use Rattle.accepted.specs.Facts.{Facts}
 use Rattle.clock.specs.declared.time.Clock.{Clock}
 use Rattle.clock.specs.Time.{current_partition, waiting}
-use Rattle.clock.proofs.Choices.{cond_false}
 use Rattle.programs.specs.declared.group.Group.{Group}
 use Rattle.programs.specs.declared.whole.Programs.{Programs}
 use Rattle.programs.specs.Parts.{group_at, active_group, active_subject, with_active}
@@ -51,9 +51,9 @@ interrupt_taken : (rows : List ℕ) (s : State) (cpu vector flag : ℕ) → s.st
     → served rows s (Some (call.Interrupt cpu vector flag)) ≡ interrupt_call rows s cpu vector flag
 unfolding served answered no_such bad_flag after_stop minds nobody_there called
 interrupt_taken rows s cpu vector flag runs l few =
-    cond_false (leb (counts_of rows).cpus cpu) _ _ (lt-leb (counts_of rows).cpus cpu l)
-    ∙ cond_false (ltb 1 flag) _ _ (le-ltb 1 flag (omega arith))
-    ∙ cond_false (s.stopped && true) _ _ (ap (λ (b : Bool). b && true) runs)
+    cond-false (leb (counts_of rows).cpus cpu) _ _ (lt-leb (counts_of rows).cpus cpu l)
+    ∙ cond-false (ltb 1 flag) _ _ (le-ltb 1 flag (omega arith))
+    ∙ cond-false (s.stopped && true) _ _ (ap (λ (b : Bool). b && true) runs)
 
 -- ---- the flag
 
@@ -65,7 +65,7 @@ record GroupsStill (p q : Programs) : Type 0 where
 stored_groups : (s : State) (cpu flag : ℕ) → GroupsStill s.programs (flag_stored s cpu flag).programs
 unfolding flag_stored with_programs
 stored_groups s cpu flag =
-    by_cond (λ (t : State). GroupsStill s.programs t.programs) (eqb (entered_on s cpu) nobody) _ _
+    cond_both (eqb (entered_on s cpu) nobody) _ _ (λ (t : State). GroupsStill s.programs t.programs)
     (λ e. record { groups = λ g. refl; active_groups = λ q. refl })
     (λ e. record { groups = λ g. group_of_subject s.programs (entered_on s cpu) _ g; active_groups = λ q. active_of_subject s.programs (entered_on s cpu) _ q })
 
@@ -97,10 +97,7 @@ module _ (rows : List ℕ) (cpu : ℕ) (m : State) (l : cpu < length m.entered) 
   admits : waiting m.clock cpu ≡ false → (found : Option ℕ) → chosen_group rows p here ≡ found → Keeps rows cpu m (admitted rows m cpu here notes found)
   unfolding admitted enters with_programs with_entered
   admits runs None c =
-      record { active_subjects = λ g. refl; active_group_lem = λ q e. refl; entered = λ g w e. absurd (apart g (sym c ∙ e)) }
-    where
-      apart : (g : ℕ) → None ≡ Some g → ⊥
-      apart g e = let z : ◌≡◌ {A = ℕ} 0 1 = cc in omega arith
+      record { active_subjects = λ g. refl; active_group_lem = λ q e. refl; entered = λ g w e. absurd (none-some g (sym c ∙ e)) }
   admits runs (Some group) c =
       record {
         active_subjects = subjects_into rows p here group x;
@@ -114,7 +111,7 @@ module _ (rows : List ℕ) (cpu : ℕ) (m : State) (l : cpu < length m.entered) 
   keeps : Keeps rows cpu m (entry_of rows m cpu notes)
   unfolding entry_of with_entered
   keeps =
-      by_cond (Keeps rows cpu m) (waiting m.clock cpu) _ _
+      cond_both (waiting m.clock cpu) _ _ (Keeps rows cpu m)
       (λ w. record { active_subjects = λ g. refl; active_group_lem = λ q e. refl; entered = λ g runs e. absurd (true≢false (sym w ∙ runs)) })
       (λ runs. admits runs (chosen_group rows p here) refl)
 

@@ -8,7 +8,7 @@ use mathlib.Core.Path.{◌≡◌, refl, ap, sym, ◌∙◌}
 use native.Mathlib.Omega.{arith}
 use lib.Dec.{ltb, leb}
 use borrow.Author.Tests.{ne_eqb, ltb-true, leb-true, leb-false, le-ltb}
-use Rattle.hexline.proofs.Cond.{by_cond, both}
+use Rattle.std.proofs.lemmas.Bool.{cond_both, and_parts}
 use Rattle.rows.specs.Lookups.{counts_of}
 use Rattle.rules.specs.Rules.{all_below}
 use Rattle.meaning.specs.Lookups.{frame_count}
@@ -26,7 +26,7 @@ use Rattle.scheduler.specs.declared.state.State.{State}
 use Rattle.scheduler.specs.States.{with_clock}
 use Rattle.scheduler.specs.Calls.{tick_call, choose_call, report_call, masks_call, called}
 use Rattle.scheduler.specs.Steps.{no_such}
-use Rattle.scheduler.proofs.CallLeaves.{Leaves, ticked_leaves, hypercall_leaves, trap_leaves, interrupt_leaves, clock_then, opens_then}
+use Rattle.scheduler.proofs.CallLeaves.{no_stop_leaves, Leaves, ticked_leaves, hypercall_leaves, trap_leaves, interrupt_leaves, clock_then, opens_then}
 
 -- ---- what the range of a clock says
 
@@ -40,15 +40,15 @@ pub record ClockRange (rows : List ℕ) (k : Clock) : Type 0 where
 pub clock_range : (rows : List ℕ) (k : Clock) → clock_in_range rows k ≡ true → ClockRange rows k
 unfolding clock_in_range cpu_in_range count_in_range
 clock_range rows k t =
-    let b = both (ltb k.major (counts_of rows).majors) _ t in
-    let c = both (ltb k.next (counts_of rows).majors) _ b.1 in
-    let d = both (all_below (counts_of rows).cpus (cpu_in_range rows k)) _ c.1 in
+    let b = and_parts (ltb k.major (counts_of rows).majors) _ t in
+    let c = and_parts (ltb k.next (counts_of rows).majors) _ b.1 in
+    let d = and_parts (all_below (counts_of rows).cpus (cpu_in_range rows k)) _ c.1 in
     record {
       major = ltb-true _ _ b.0;
       next = ltb-true _ _ c.0;
-      minor = λ i l. ltb-true _ _ (both (ltb (cpu_at k i).minor (frame_count rows k.major i)) _ (below_at _ _ d.0 i l)).0;
-      left = λ i l. leb-true _ _ (both (ltb (cpu_at k i).minor (frame_count rows k.major i)) _ (below_at _ _ d.0 i l)).1;
-      count = λ q l. leb-true _ _ (both (leb (count_now k q) most_count) _ (below_at _ _ d.1 q l)).0;
+      minor = λ i l. ltb-true _ _ (and_parts (ltb (cpu_at k i).minor (frame_count rows k.major i)) _ (below_at _ _ d.0 i l)).0;
+      left = λ i l. leb-true _ _ (and_parts (ltb (cpu_at k i).minor (frame_count rows k.major i)) _ (below_at _ _ d.0 i l)).1;
+      count = λ q l. leb-true _ _ (and_parts (leb (count_now k q) most_count) _ (below_at _ _ d.1 q l)).0;
     }
 
 module _ (rows : List ℕ) (facts : Facts rows) (k : Clock) (r : ClockRange rows k) (cpu : ℕ) (l : cpu < (counts_of rows).cpus) where
@@ -60,15 +60,15 @@ module _ (rows : List ℕ) (facts : Facts rows) (k : Clock) (r : ClockRange rows
   -- the clock refuses no tick
   settles : (j : Clock) → refuses (settled rows j).what ≡ false
   unfolding settled
-  settles j = by_cond (λ (t : Ticked). refuses t.what ≡ false) (all_finished rows j) _ _ (λ t. refl) (λ f. refl)
+  settles j = cond_both (all_finished rows j) _ _ (λ (t : Ticked). refuses t.what ≡ false) (λ t. refl) (λ f. refl)
 
   pub not_refused : refuses (tick_of rows k cpu).what ≡ false
   unfolding tick_of
   not_refused =
-      by_cond (λ (t : Ticked). refuses t.what ≡ false) (waiting k cpu) _ _ (λ w. refl)
-      (λ b. by_cond (λ (t : Ticked). refuses t.what ≡ false) (ltb most_count (count_now k (current_partition rows k cpu))) _ _
+      cond_both (waiting k cpu) _ _ (λ (t : Ticked). refuses t.what ≡ false) (λ w. refl)
+      (λ b. cond_both (ltb most_count (count_now k (current_partition rows k cpu))) _ _ (λ (t : Ticked). refuses t.what ≡ false)
       (λ o. absurd (true≢false (sym o ∙ le-ltb _ _ room)))
-      (λ n. by_cond (λ (t : Ticked). refuses t.what ≡ false) (ltb 1 (ticks_left k cpu)) _ _ (λ m. refl) (λ f. settles _)))
+      (λ n. cond_both (ltb 1 (ticks_left k cpu)) _ _ (λ (t : Ticked). refuses t.what ≡ false) (λ m. refl) (λ f. settles _)))
 
   -- a frame that opens gives each CPU a tick
   pub opened_busy : opens (tick_of rows k cpu).what ≡ true → waiting (tick_of rows k cpu).clock cpu ≡ false
@@ -98,9 +98,6 @@ module _ (rows : List ℕ) (facts : Facts rows) (s : State) (r : ClockRange rows
   called_leaves (call.Hypercall cpu event flag) e = hypercall_leaves rows s cpu event flag
   called_leaves (call.Trap cpu trap flag) e = trap_leaves rows s cpu trap flag
   called_leaves (call.Interrupt cpu vector flag) e = interrupt_leaves rows s cpu vector flag
-  called_leaves (call.Choose major) e =
-      record { clock = refl; taken = refl; frame = refl; stopped = λ h. h; nobody_after = λ h. absurd (true≢false (sym h)) }
-  called_leaves (call.Report partition) e =
-      record { clock = refl; taken = refl; frame = refl; stopped = λ h. h; nobody_after = λ h. absurd (true≢false (sym h)) }
-  called_leaves call.Masks e =
-      record { clock = refl; taken = refl; frame = refl; stopped = λ h. h; nobody_after = λ h. absurd (true≢false (sym h)) }
+  called_leaves (call.Choose major) e = no_stop_leaves s _ false _ refl refl refl refl refl
+  called_leaves (call.Report partition) e = no_stop_leaves s _ false _ refl refl refl refl refl
+  called_leaves call.Masks e = no_stop_leaves s _ false _ refl refl refl refl refl

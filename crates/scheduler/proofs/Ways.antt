@@ -8,7 +8,7 @@ use mathlib.Core.Logic.{◌⊎◌, inl, inr}
 use mathlib.Core.Path.{◌≡◌, refl, sym, ap, ◌∙◌}
 use lib.Dec.{ltb, eqb}
 use borrow.Author.Tests.{eq-eqb, eqb-false, leb-false}
-use Rattle.hexline.proofs.Cond.{by_cond}
+use Rattle.std.proofs.lemmas.Bool.{cond_both}
 use Rattle.rows.specs.Lookups.{counts_of}
 use Rattle.meaning.specs.declared.answer.SourceEvent.{SourceEvent}
 use Rattle.meaning.specs.Answers.{no_event}
@@ -77,7 +77,7 @@ made h cpu e c f q = true≢false (sym (eq-eqb cpu c (sym q)) ∙ sym (e c) ∙ 
 
 event_of : (rows : List ℕ) (subject event : ℕ) → EventOf rows subject (hypercall_event rows subject event)
 unfolding hypercall_event
-event_of rows subject event = by_cond (EventOf rows subject) (ltb event 16) _ _ (λ e. inr (event, refl)) (λ e. inl refl)
+event_of rows subject event = cond_both (ltb event 16) _ _ (EventOf rows subject) (λ e. inr (event, refl)) (λ e. inl refl)
 
 module _ (rows : List ℕ) (h : Option Call) (s : State) (P : Stepped → Type 0) (w : Ways rows h s P) where
   refuses : (why : Refusal) → P (refused s why)
@@ -107,16 +107,16 @@ module _ (rows : List ℕ) (h : Option Call) (s : State) (P : Stepped → Type 0
   traps : (cpu trap flag : ℕ) → Made h cpu → cpu < (counts_of rows).cpus → (entered_on s cpu ≡ nobody → ⊥) → P (trap_call rows s cpu trap flag)
   unfolding trap_call trap_source stop
   traps cpu trap flag m l n =
-      by_cond P (ltb 59 trap) _ _ (λ e. w.stopped cpu flag m l _ HighTrap)
+      cond_both (ltb 59 trap) _ _ P (λ e. w.stopped cpu flag m l _ HighTrap)
       (λ e. events cpu flag (trap_source rows (entered_on s cpu) trap) _ m l n (inr (trap_event rows (entered_on s cpu) trap, refl)))
 
   answers : (c : Call) → (no_such rows c ≡ false → nobody_there s c ≡ false → P (called rows s c)) → P (answered rows s c)
   unfolding answered
   answers c f =
-      by_cond P (no_such rows c) _ _ (λ e. refuses NoSuch)
-      (λ there. by_cond P (bad_flag c) _ _ (λ e. refuses BadFlag)
-      (λ e. by_cond P (after_stop s c) _ _ (λ d. refuses refusal.Stopped)
-      (λ d. by_cond P (nobody_there s c) _ _ (λ a. refuses NobodyEntered) (λ a. f there a))))
+      cond_both (no_such rows c) _ _ P (λ e. refuses NoSuch)
+      (λ there. cond_both (bad_flag c) _ _ P (λ e. refuses BadFlag)
+      (λ e. cond_both (after_stop s c) _ _ P (λ d. refuses refusal.Stopped)
+      (λ d. cond_both (nobody_there s c) _ _ P (λ a. refuses NobodyEntered) (λ a. f there a))))
 
   -- a call that is not refused
   calls : (c : Call) → h ≡ Some c → no_such rows c ≡ false → nobody_there s c ≡ false → P (called rows s c)

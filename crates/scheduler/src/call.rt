@@ -1,6 +1,8 @@
 // The seven calls, of which none is refused here.
+#![tactic(auto, unfolding(crate::specs::Calls::refused, crate::specs::Calls::ticked_as, crate::specs::Calls::tick_call, crate::specs::Calls::hypercall, crate::specs::Calls::trap_call, crate::specs::Calls::interrupt_call, crate::specs::Calls::choose_call, crate::specs::Calls::report_call, crate::specs::Calls::masks_call, crate::specs::Calls::called))]
+
 ghost use Rattle.std.specs.Prelude.{◌≡◌};
-ghost use Rattle.scheduler.specs.Calls.{refused, plain, new_frame, tick_call, hypercall, trap_call, interrupt_call, choose_call, report_call, masks_call, called};
+ghost use Rattle.scheduler.specs.Calls.{refused, tick_call, hypercall, trap_call, interrupt_call, choose_call, report_call, masks_call, called};
 
 use crate::event::{advances, hypercall_event, trap_source};
 use crate::state::{State, Stepped};
@@ -12,26 +14,18 @@ use meaning::HostVector;
 const HIGHEST_TRAP: u8 = 59;
 
 // Neither advance nor new frame, and no kick.
-fn plain() -> Notes
-    ensures { result ≡ plain }
-{
-    Notes {
-        advance: false,
-        new_frame: false,
-        kick: None,
-    }
-}
+const PLAIN: Notes = Notes {
+    advance: false,
+    new_frame: false,
+    kick: None,
+};
 
 // This tick opened a major frame.
-fn new_frame() -> Notes
-    ensures { result ≡ new_frame }
-{
-    Notes {
-        advance: false,
-        new_frame: true,
-        kick: None,
-    }
-}
+const NEW_FRAME: Notes = Notes {
+    advance: false,
+    new_frame: true,
+    kick: None,
+};
 
 impl State {
     // The very same state.
@@ -47,33 +41,28 @@ impl State {
     fn tick_call(self, rows: &[u64], cpu: u8, flag: u8) -> Stepped
         ensures { result ≡ tick_call rows.now self cpu flag }
     {
-        let clock = self.clock;
-        let ticked = clock.tick(rows, cpu);
-        let what = ticked.what;
-        match what {
+        let ticked = self.clock.tick(rows, cpu);
+        match ticked.what {
             Tick::Wait => Stepped {
                 state: self,
                 answer: Answer::Wait,
             },
-            Tick::GoOn => {
-                let subject = self.entered_on(cpu);
-                let left = ticked.clock.ticks_left(cpu);
-                let state = self.with_clock(ticked.clock);
-                Stepped {
-                    state,
-                    answer: Answer::GoOn { subject, left },
-                }
-            }
-            Tick::Moved => {
-                let notes = plain();
-                let stored = self.with_clock(ticked.clock).flag_stored(cpu, flag);
-                stored.entry(rows, cpu, notes)
-            }
-            Tick::Opened => {
-                let notes = new_frame();
-                let stored = self.with_clock(ticked.clock).flag_stored(cpu, flag);
-                stored.alone_on(cpu).entry(rows, cpu, notes)
-            }
+            Tick::GoOn => Stepped {
+                state: self.with_clock(ticked.clock),
+                answer: Answer::GoOn {
+                    subject: self.entered_on(cpu),
+                    left: ticked.clock.ticks_left(cpu),
+                },
+            },
+            Tick::Moved => self
+                .with_clock(ticked.clock)
+                .flag_stored(cpu, flag)
+                .entry(rows, cpu, PLAIN),
+            Tick::Opened => self
+                .with_clock(ticked.clock)
+                .flag_stored(cpu, flag)
+                .alone_on(cpu)
+                .entry(rows, cpu, NEW_FRAME),
             Tick::Refused => self.refused(Refusal::OutOfRange),
         }
     }
@@ -83,8 +72,8 @@ impl State {
     {
         let subject = self.entered_on(cpu);
         let source = hypercall_event(rows, subject, event);
-        let stored = self.flag_stored(cpu, flag);
-        stored.event_handled(rows, cpu, subject, source, true)
+        self.flag_stored(cpu, flag)
+            .event_handled(rows, cpu, subject, source, true)
     }
 
     fn trap_call(self, rows: &[u64], cpu: u8, trap: u8, flag: u8) -> Stepped
@@ -96,29 +85,22 @@ impl State {
             return stored.stop(subject, Reason::HighTrap);
         }
         let source = trap_source(rows, subject, trap);
-        let action = source.action;
-        let advance = advances(action);
-        stored.event_handled(rows, cpu, subject, source, advance)
+        stored.event_handled(rows, cpu, subject, source, advances(source.action))
     }
 
     fn interrupt_call(self, rows: &[u64], cpu: u8, vector: u8, flag: u8) -> Stepped
         ensures { result ≡ interrupt_call rows.now self cpu vector flag }
     {
         let stored = self.flag_stored(cpu, flag);
-        let programs = stored.programs;
-        let after = programs.interrupted(rows, HostVector(vector));
-        let notes = plain();
-        stored.with_programs(after).entry(rows, cpu, notes)
+        let after = stored.programs.interrupted(rows, HostVector(vector));
+        stored.with_programs(after).entry(rows, cpu, PLAIN)
     }
 
     fn choose_call(self, major: u8) -> Stepped
         ensures { result ≡ choose_call self major }
     {
-        let clock = self.clock;
-        let after = clock.choose(major);
-        let state = self.with_clock(after);
         Stepped {
-            state,
+            state: self.with_clock(self.clock.choose(major)),
             answer: Answer::Chosen,
         }
     }
@@ -126,15 +108,12 @@ impl State {
     fn report_call(self, partition: u8) -> Stepped
         ensures { result ≡ report_call self partition }
     {
-        let clock = self.clock;
-        let now = clock.count_now(partition);
-        let last = clock.count_last(partition);
         Stepped {
             state: self,
             answer: Answer::Report {
                 partition,
-                now,
-                last,
+                now: self.clock.count_now(partition),
+                last: self.clock.count_last(partition),
             },
         }
     }
@@ -142,10 +121,11 @@ impl State {
     fn masks_call(self) -> Stepped
         ensures { result ≡ masks_call self }
     {
-        let lines = self.programs.masks;
         Stepped {
             state: self,
-            answer: Answer::Masks { lines },
+            answer: Answer::Masks {
+                lines: self.programs.masks,
+            },
         }
     }
 

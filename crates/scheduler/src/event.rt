@@ -1,4 +1,6 @@
 // A source event handled, in a hypercall or a trap: it stops, or its action and its target event are done and entry follows.
+#![tactic(auto, unfolding(crate::specs::Calls::stopping_of, crate::specs::Calls::kicked_by, crate::specs::Calls::stop, crate::specs::Calls::event_then, crate::specs::Calls::event_handled, crate::specs::Calls::hypercall_event, crate::specs::Calls::advances, crate::specs::Calls::trap_source, meaning::specs::Answers::no_event))]
+
 ghost use Rattle.std.specs.Prelude.{◌≡◌};
 ghost use Rattle.rows.specs.Lookups.{cpu_of, partition_of, group_of};
 ghost use Rattle.scheduler.specs.Calls.{stopping_of, kicked_by, stop, event_handled, hypercall_event, advances, trap_source};
@@ -16,14 +18,10 @@ fn stopping_of(action: Action) -> Option<Reason>
     ensures { result ≡ stopping_of action }
 {
     match action {
-        Action::Nothing => None,
-        Action::Sleep => None,
-        Action::Yield => None,
-        Action::Handover(_) => None,
-        Action::Unmask(_) => None,
         Action::Reboot => Some(Reason::Reboot),
         Action::PowerOff => Some(Reason::PowerOff),
         Action::Panic => Some(Reason::Panic),
+        _ => None,
     }
 }
 
@@ -31,25 +29,14 @@ fn stopping_of(action: Action) -> Option<Reason>
 pub(crate) fn advances(action: Action) -> bool
     ensures { result ≡ advances action }
 {
-    match action {
-        Action::Nothing => false,
-        Action::Sleep => true,
-        Action::Yield => true,
-        Action::Handover(_) => false,
-        Action::Unmask(_) => false,
-        Action::Reboot => false,
-        Action::PowerOff => false,
-        Action::Panic => false,
-    }
+    matches!(action, Action::Sleep | Action::Yield)
 }
 
 // The CPU of a subject.
 fn home_of(rows: &[u64], subject: u8) -> u8
     ensures { result ≡ cpu_of rows.now (partition_of rows.now (group_of rows.now subject)) }
 {
-    let group = group_of(rows, subject);
-    let partition = partition_of(rows, group);
-    cpu_of(rows, partition)
+    cpu_of(rows, partition_of(rows, group_of(rows, subject)))
 }
 
 // The CPU that a handled event kicks, if it says so.
@@ -57,19 +44,8 @@ fn kicked_by(rows: &[u64], signal: Option<Signal>) -> Option<u8>
     ensures { result ≡ kicked_by rows.now signal }
 {
     match signal {
-        None => None,
-        Some(
-            Signal {
-                subject,
-                event: _,
-                kick,
-            },
-        ) => {
-            if kick {
-                return Some(home_of(rows, subject));
-            }
-            None
-        }
+        Some(signal) if signal.kick => Some(home_of(rows, signal.subject)),
+        _ => None,
     }
 }
 
@@ -78,11 +54,12 @@ pub(crate) fn hypercall_event(rows: &[u64], subject: u8, event: u8) -> SourceEve
     ensures { result ≡ hypercall_event rows.now subject event }
 {
     if event < EVENTS {
-        return source_event(rows, subject, event);
-    }
-    SourceEvent {
-        action: Action::Nothing,
-        signal: None,
+        source_event(rows, subject, event)
+    } else {
+        SourceEvent {
+            action: Action::Nothing,
+            signal: None,
+        }
     }
 }
 
@@ -90,17 +67,15 @@ pub(crate) fn hypercall_event(rows: &[u64], subject: u8, event: u8) -> SourceEve
 pub(crate) fn trap_source(rows: &[u64], subject: u8, trap: u8) -> SourceEvent
     ensures { result ≡ trap_source rows.now subject trap }
 {
-    let event = trap_event(rows, subject, trap);
-    source_event(rows, subject, event)
+    source_event(rows, subject, trap_event(rows, subject, trap))
 }
 
 impl State {
     pub(crate) fn stop(self, subject: u8, reason: Reason) -> Stepped
         ensures { result ≡ stop self subject reason }
     {
-        let state = self.halted();
         Stepped {
-            state,
+            state: self.halted(),
             answer: Answer::Stopped { subject, reason },
         }
     }
@@ -115,22 +90,15 @@ impl State {
     ) -> Stepped
         ensures { result ≡ event_handled rows.now self cpu subject event advance }
     {
-        let action = event.action;
-        let stopping = stopping_of(action);
-        match stopping {
-            Some(reason) => self.stop(subject, reason),
-            None => {
-                let signal = event.signal;
-                let kick = kicked_by(rows, signal);
-                let programs = self.programs;
-                let after = programs.handled(rows, subject, event);
-                let notes = Notes {
-                    advance,
-                    new_frame: false,
-                    kick,
-                };
-                self.with_programs(after).entry(rows, cpu, notes)
-            }
+        if let Some(reason) = stopping_of(event.action) {
+            return self.stop(subject, reason);
         }
+        let after = self.programs.handled(rows, subject, event);
+        let notes = Notes {
+            advance,
+            new_frame: false,
+            kick: kicked_by(rows, event.signal),
+        };
+        self.with_programs(after).entry(rows, cpu, notes)
     }
 }

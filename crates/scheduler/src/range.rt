@@ -1,6 +1,7 @@
 // The list of refusal 80, of a state.
+#![tactic(auto, unfolding(crate::specs::Range::active_on, crate::specs::Range::entered_in_range, crate::specs::Range::in_range, programs::specs::Parts::active_subject))]
+
 ghost use Rattle.std.specs.Prelude.{◌≡◌};
-ghost use Rattle.rules.specs.Rules.{all_below};
 ghost use Rattle.scheduler.specs.Range.{active_on, entered_in_range, in_range};
 
 use crate::state::{NOBODY, State};
@@ -11,55 +12,23 @@ impl State {
     fn active_on(self, rows: &[u64], cpu: u8) -> u8
         ensures { result ≡ active_on rows.now self cpu }
     {
-        let clock = self.clock;
-        let programs = self.programs;
-        let partition = clock.current_partition(rows, cpu);
-        let group = programs.active_group(partition);
-        let kept = programs.group_at(group);
-        kept.active
+        let partition = self.clock.current_partition(rows, cpu);
+        let group = self.programs.active_group(partition);
+        self.programs.group_at(group).active
     }
 
     fn entered_in_range(self, rows: &[u64], cpu: u8) -> bool
         ensures { result ≡ entered_in_range rows.now self cpu }
     {
         let entered = self.entered_on(cpu);
-        if entered == NOBODY {
-            return true;
-        }
-        let clock = self.clock;
-        if clock.waiting(cpu) {
-            return false;
-        }
-        let active = self.active_on(rows, cpu);
-        entered == active
-    }
-
-    // The same of the first CPUs, so many of them.
-    fn entered_below(self, rows: &[u64], count: u8) -> bool
-        ensures { result ≡ all_below count (entered_in_range rows.now self) }
-    {
-        let mut cpu: u8 = 0;
-        while cpu < count {
-            if !self.entered_in_range(rows, cpu) {
-                return false;
-            }
-            cpu += 1;
-        }
-        true
+        entered == NOBODY || !self.clock.waiting(cpu) && entered == self.active_on(rows, cpu)
     }
 
     pub fn in_range(self, rows: &[u64]) -> bool
         ensures { result ≡ in_range rows.now self }
     {
-        let clock = self.clock;
-        if !clock.in_range(rows) {
-            return false;
-        }
-        let programs = self.programs;
-        if !programs.in_range(rows) {
-            return false;
-        }
-        let counts = counts_of(rows);
-        self.entered_below(rows, counts.cpus)
+        self.clock.in_range(rows)
+            && self.programs.in_range(rows)
+            && (0..counts_of(rows).cpus).all(|cpu| self.entered_in_range(rows, cpu))
     }
 }

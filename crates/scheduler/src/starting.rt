@@ -1,9 +1,11 @@
 // From the reader's answer: a start, or the refusal with its line.
+#![tactic(auto, unfolding(crate::specs::Start::not_started, crate::specs::Start::started_with, crate::specs::Start::started_by, crate::specs::Start::start_of))]
+
 ghost use Rattle.std.specs.Prelude.{◌≡◌};
 ghost use Rattle.scheduler.specs.Start.{not_started, started_with, start_of};
 
 use crate::state::State;
-use policy::own_text::known_rows;
+use policy::own_text::known;
 use policy::{Policy, Reading};
 use rules::Refusal;
 
@@ -18,31 +20,30 @@ pub struct Started {
 fn not_started(verdict: Result<(), Refusal>) -> Started
     ensures { result ≡ not_started verdict }
 {
-    let state = State::zero();
-    Started { verdict, state }
+    Started {
+        verdict,
+        state: State::zero(),
+    }
 }
 
 // From a policy handed in.
 pub fn start_with(policy: Policy) -> Started
     ensures { result ≡ started_with policy }
 {
-    let rows = policy.rows;
-    if !known_rows(&rows) {
+    if !known(policy) {
         return not_started(Err(Refusal::NotAPolicy));
     }
-    let state = State::fresh(&rows);
     Started {
         verdict: Ok(()),
-        state,
+        state: State::fresh(&policy.rows),
     }
 }
 
 pub fn start(reading: Reading) -> Started
     ensures { result ≡ start_of reading }
 {
-    let verdict = reading.verdict;
-    let Ok(()) = verdict else {
-        return not_started(verdict);
+    let Ok(()) = reading.verdict else {
+        return not_started(reading.verdict);
     };
     start_with(reading.policy)
 }

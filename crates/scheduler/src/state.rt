@@ -1,15 +1,17 @@
 // The state: plan time, the programs, who is entered on each CPU, whether the core has stopped.
+#![tactic(auto, unfolding(crate::specs::States::entered_on, crate::specs::States::with_clock, crate::specs::States::with_programs, crate::specs::States::with_entered, crate::specs::States::fresh_state, crate::specs::States::zero_clock, crate::specs::States::zero_state, crate::specs::States::flag_stored, crate::specs::States::alone_on, crate::specs::States::halted))]
+
 ghost use Rattle.std.specs.Prelude.{◌≡◌};
 ghost use Rattle.scheduler.specs.States.{entered_on, with_clock, with_programs, with_entered, fresh_state, zero_state, flag_stored, alone_on, halted};
 
 use calls::Answer;
+use clock::time::{CPUS, PARTITIONS};
 use clock::{Clock, CpuClock};
 use programs::Programs;
+use rows::{item_or, store};
 
 // Who is entered where nobody is.
 pub const NOBODY: u8 = 255;
-
-const CPUS: u8 = 4;
 
 // The flag of a subject that is open.
 const OPEN: u8 = 1;
@@ -18,8 +20,8 @@ const OPEN: u8 = 1;
 pub struct State {
     pub clock: Clock,
     pub programs: Programs,
-    // The subject entered on each CPU, or nobody.
-    pub entered: [u8; 4],
+    // The subject entered on each CPU, or nobody: numbers, since a state that is handed in may hold any.
+    pub entered: [u8; CPUS],
     pub stopped: bool,
 }
 
@@ -35,11 +37,7 @@ impl State {
     pub fn entered_on(self, cpu: u8) -> u8
         ensures { result ≡ entered_on self cpu }
     {
-        if CPUS <= cpu {
-            return NOBODY;
-        }
-        let at = cpu as usize;
-        self.entered[at]
+        item_or(&self.entered, cpu as usize, NOBODY)
     }
 
     pub(crate) fn with_clock(mut self, clock: Clock) -> State
@@ -59,11 +57,7 @@ impl State {
     pub(crate) fn with_entered(mut self, cpu: u8, subject: u8) -> State
         ensures { result ≡ with_entered self cpu subject }
     {
-        if CPUS <= cpu {
-            return self;
-        }
-        let at = cpu as usize;
-        self.entered[at] = subject;
+        store(&mut self.entered, cpu as usize, subject);
         self
     }
 
@@ -71,12 +65,10 @@ impl State {
     pub fn fresh(rows: &[u64]) -> State
         ensures { result ≡ fresh_state rows.now }
     {
-        let clock = Clock::fresh(rows);
-        let programs = Programs::fresh(rows);
         State {
-            clock,
-            programs,
-            entered: [NOBODY; 4],
+            clock: Clock::fresh(rows),
+            programs: Programs::fresh(rows),
+            entered: [NOBODY; CPUS],
             stopped: false,
         }
     }
@@ -85,19 +77,16 @@ impl State {
     pub fn zero() -> State
         ensures { result ≡ zero_state }
     {
-        let cpu = CpuClock { minor: 0, left: 0 };
-        let clock = Clock {
-            major: 0,
-            next: 0,
-            cpus: [cpu; 4],
-            now: [0u16; 8],
-            last: [0u16; 8],
-        };
-        let programs = Programs::zero();
         State {
-            clock,
-            programs,
-            entered: [0u8; 4],
+            clock: Clock {
+                major: 0,
+                next: 0,
+                cpus: [CpuClock { minor: 0, left: 0 }; CPUS],
+                now: [0; PARTITIONS],
+                last: [0; PARTITIONS],
+            },
+            programs: Programs::zero(),
+            entered: [0; CPUS],
             stopped: false,
         }
     }
@@ -110,28 +99,24 @@ impl State {
         if subject == NOBODY {
             return self;
         }
-        let programs = self.programs;
-        let kept = programs.subject_at(subject);
-        let stored = kept.set_open(flag == OPEN);
-        let after = programs.with_subject(subject, stored);
-        self.with_programs(after)
+        let stored = self.programs.subject_at(subject).set_open(flag == OPEN);
+        self.with_programs(self.programs.with_subject(subject, stored))
     }
 
     // Nobody is entered on the other CPUs.
-    pub(crate) fn alone_on(mut self, cpu: u8) -> State
+    pub(crate) fn alone_on(self, cpu: u8) -> State
         ensures { result ≡ alone_on self cpu }
     {
-        let subject = self.entered_on(cpu);
-        let others = [NOBODY; 4];
-        self.entered = others;
-        self.with_entered(cpu, subject)
+        let mut entered = [NOBODY; CPUS];
+        store(&mut entered, cpu as usize, self.entered_on(cpu));
+        State { entered, ..self }
     }
 
     // Nobody is entered on any CPU, and no call goes on.
     pub(crate) fn halted(mut self) -> State
         ensures { result ≡ halted self }
     {
-        self.entered = [NOBODY; 4];
+        self.entered = [NOBODY; CPUS];
         self.stopped = true;
         self
     }

@@ -1,11 +1,13 @@
 // One call: refusals 80 to 85, first that applies, then the call.
+#![tactic(auto, unfolding(crate::specs::Steps::no_such, crate::specs::Steps::bad_flag, crate::specs::Steps::minds, crate::specs::Steps::after_stop, crate::specs::Steps::nobody_there, crate::specs::Steps::answered, crate::specs::Steps::served, crate::specs::Steps::step_of))]
+
 ghost use Rattle.std.specs.Prelude.{◌≡◌};
 ghost use Rattle.scheduler.specs.Steps.{no_such, bad_flag, minds, after_stop, nobody_there, answered, served, step_of};
 
 use crate::state::{NOBODY, State, Stepped};
 use calls::{Call, Refusal};
 use policy::Policy;
-use policy::own_text::known_rows;
+use policy::own_text::known;
 use rows::counts_of;
 
 // A flag goes to so much.
@@ -17,22 +19,10 @@ fn no_such(rows: &[u64], call: Call) -> bool
 {
     let counts = counts_of(rows);
     match call {
-        Call::Tick { cpu, flag: _ } => counts.cpus <= cpu,
-        Call::Hypercall {
-            cpu,
-            event: _,
-            flag: _,
-        } => counts.cpus <= cpu,
-        Call::Trap {
-            cpu,
-            trap: _,
-            flag: _,
-        } => counts.cpus <= cpu,
-        Call::Interrupt {
-            cpu,
-            vector: _,
-            flag: _,
-        } => counts.cpus <= cpu,
+        Call::Tick { cpu, .. }
+        | Call::Hypercall { cpu, .. }
+        | Call::Trap { cpu, .. }
+        | Call::Interrupt { cpu, .. } => counts.cpus <= cpu,
         Call::Choose { major } => counts.majors <= major,
         Call::Report { partition } => counts.partitions <= partition,
         Call::Masks => false,
@@ -44,25 +34,11 @@ fn bad_flag(call: Call) -> bool
     ensures { result ≡ bad_flag call }
 {
     match call {
-        Call::Tick { cpu: _, flag } => HIGHEST_FLAG < flag,
-        Call::Hypercall {
-            cpu: _,
-            event: _,
-            flag,
-        } => HIGHEST_FLAG < flag,
-        Call::Trap {
-            cpu: _,
-            trap: _,
-            flag,
-        } => HIGHEST_FLAG < flag,
-        Call::Interrupt {
-            cpu: _,
-            vector: _,
-            flag,
-        } => HIGHEST_FLAG < flag,
-        Call::Choose { major: _ } => false,
-        Call::Report { partition: _ } => false,
-        Call::Masks => false,
+        Call::Tick { flag, .. }
+        | Call::Hypercall { flag, .. }
+        | Call::Trap { flag, .. }
+        | Call::Interrupt { flag, .. } => HIGHEST_FLAG < flag,
+        Call::Choose { .. } | Call::Report { .. } | Call::Masks => false,
     }
 }
 
@@ -70,27 +46,7 @@ fn bad_flag(call: Call) -> bool
 fn minds(call: Call) -> bool
     ensures { result ≡ minds call }
 {
-    match call {
-        Call::Tick { cpu: _, flag: _ } => true,
-        Call::Hypercall {
-            cpu: _,
-            event: _,
-            flag: _,
-        } => true,
-        Call::Trap {
-            cpu: _,
-            trap: _,
-            flag: _,
-        } => true,
-        Call::Interrupt {
-            cpu: _,
-            vector: _,
-            flag: _,
-        } => true,
-        Call::Choose { major: _ } => true,
-        Call::Report { partition: _ } => false,
-        Call::Masks => false,
-    }
+    !matches!(call, Call::Report { .. } | Call::Masks)
 }
 
 impl State {
@@ -98,8 +54,7 @@ impl State {
     fn after_stop(self, call: Call) -> bool
         ensures { result ≡ after_stop self call }
     {
-        let minded = minds(call);
-        self.stopped & minded
+        self.stopped && minds(call)
     }
 
     // 85: hypercall or trap with nobody entered.
@@ -107,25 +62,8 @@ impl State {
         ensures { result ≡ nobody_there self call }
     {
         match call {
-            Call::Tick { cpu: _, flag: _ } => false,
-            Call::Hypercall {
-                cpu,
-                event: _,
-                flag: _,
-            } => self.entered_on(cpu) == NOBODY,
-            Call::Trap {
-                cpu,
-                trap: _,
-                flag: _,
-            } => self.entered_on(cpu) == NOBODY,
-            Call::Interrupt {
-                cpu: _,
-                vector: _,
-                flag: _,
-            } => false,
-            Call::Choose { major: _ } => false,
-            Call::Report { partition: _ } => false,
-            Call::Masks => false,
+            Call::Hypercall { cpu, .. } | Call::Trap { cpu, .. } => self.entered_on(cpu) == NOBODY,
+            _ => false,
         }
     }
 
@@ -153,22 +91,18 @@ impl State {
 pub fn serve(rows: &[u64], state: State, heard: Option<Call>) -> Stepped
     ensures { result ≡ served rows.now state heard }
 {
-    match heard {
-        None => state.refused(Refusal::IllFormed),
-        Some(call) => state.answered(rows, call),
-    }
+    let Some(call) = heard else {
+        return state.refused(Refusal::IllFormed);
+    };
+    state.answered(rows, call)
 }
 
 // A call of any policy and state whatever.
 pub fn step(policy: Policy, state: State, heard: Option<Call>) -> Stepped
     ensures { result ≡ step_of policy state heard }
 {
-    let rows = policy.rows;
-    if !known_rows(&rows) {
+    if !known(policy) || !state.in_range(&policy.rows) {
         return state.refused(Refusal::OutOfRange);
     }
-    if !state.in_range(&rows) {
-        return state.refused(Refusal::OutOfRange);
-    }
-    serve(&rows, state, heard)
+    serve(&policy.rows, state, heard)
 }
