@@ -1,4 +1,4 @@
--- The laws of `specs/Members.antt`, over a list of words of any length: one proof for both types.
+-- The laws of `specs/Members.antt`, over a list of words of any length.
 -- Numbers k and v are at one bit of one word only where k is v, so a word replaced, all its bits but v's kept, keeps each number but v.
 -- A highest number is found by a walk down, so what the walk finds is highest, and it finds nothing where nothing is.
 -- Assumes nothing.
@@ -7,16 +7,18 @@ use mathlib.Core.Path.{◌≡◌, refl, sym, ap, ◌∙◌}
 use mathlib.Core.Bool.{Bool, true, false, cond, not, ◌&&◌, ◌||◌, true≢false}
 use mathlib.Core.List.{List}
 use mathlib.Core.Logic.{◌⊎◌, inl, inr, ◌↔◌}
-use Prim.Native.Nat.{ℕ, zero, suc, ◌+◌, ◌*◌, ◌^◌, ◌≤◌, ◌<◌}
+use Prim.Native.Nat.{ℕ, zero, suc, ◌+◌, ◌-◌, ◌*◌, ◌^◌, ◌≤◌, ◌<◌}
 use native.Mathlib.Omega.{arith}
 use native.Mathlib.Decide.{dec_lt, ℕ_discrete}
-use lib.Dec.{eqb, lit<}
-use lib.ListN.{length, get_or, set, length-set, get_or-eq_default}
+use lib.Dec.{eqb}
+use lib.ListN.{length, get_or, set, replicate, length-set, length-replicate, get_or-eq_default}
+use lib.Pow.{pow_pos}
+use Rattle.std.specs.Bool.{Decides}
 use lib.Seq.{get_or-set_same, get_or-set_other, set_out, ext_get_or}
 use borrow.Author.Tests.{eq-eqb, ne_eqb}
 use Rattle.bits.specs.Word.{word_index, bit_index, bit_of}
 use Rattle.bits.specs.Members.{has, marked, cleared, highest_below, is_nothing, NoneBelow, Top}
-use Rattle.bits.proofs.Bits.{bit_zero, bits_ext, set_same, set_other, set_lt, cleared_same, cleared_other, cleared_lt}
+use Rattle.bits.proofs.Digits.{bit_zero, bits_ext, set_same, set_other, set_lt, cleared_same, cleared_other, cleared_lt}
 
 -- each word has 64 bits
 abbrev pub Small : List ℕ → Type 0
@@ -90,10 +92,6 @@ module _ (words : List ℕ) (v : ℕ) where
       go (yes e) (yes h) =
           rw (e, eq-eqb v v refl) (with_same words v _ h ∙ cleared_same (get_or words (word_index v) 0) (bit_index v) (omega arith))
       go (yes e) (no g) = rw (e, eq-eqb v v refl) (has_past _ v (rw (length-set words (word_index v)) (omega arith)))
-
-  pub cleared_past : length words * 64 ≤ v → cleared words v ≡ words
-  unfolding cleared
-  cleared_past h = set_out words (word_index v) _ (omega arith)
 
   pub cleared_long : length (cleared words v) ≡ length words
   unfolding cleared
@@ -177,42 +175,35 @@ module _ (words : List ℕ) where
   pub empty_none : (n : ℕ) → (is_nothing (highest_below words n) ≡ true) ↔ NoneBelow (has words) n
   empty_none n = (λ e. highest_none n (nothing n e), λ h. ap is_nothing (none_highest n h))
 
+  -- past the last word a walk finds nothing
+  pub highest_past : (n : ℕ) → length words * 64 ≤ n → highest_below words n ≡ highest_below words (length words * 64)
+  highest_past n l = more (n - length words * 64) n (omega arith)
+    where
+      more : (j n : ℕ) → n ≡ j + length words * 64 → highest_below words n ≡ highest_below words (length words * 64)
+      more zero n e = let same : n ≡ length words * 64 = omega arith in ap (λ (k : ℕ). highest_below words k) same
+      more (suc j) n e =
+          let k = j + length words * 64 in
+          walk_step n k (omega arith) (has_past words k (omega arith)) ∙ more j k refl
+
+  -- a set with no number in its words has none
+  pub none_past : NoneBelow (has words) (length words * 64) → (k : ℕ) → has words k ≡ false
+  none_past h k = go (dec_lt k (length words * 64))
+    where
+      go : Dec (k < length words * 64) → has words k ≡ false
+      go (yes l) = h k l
+      go (no g) = has_past words k (omega arith)
+
+  pub empty_highest : (n : ℕ) → is_nothing (highest_below words (length words * 64)) ≡ true → highest_below words n ≡ None
+  empty_highest n e = none_highest n (λ k l. none_past ((empty_none (length words * 64)).0 e) k)
+
 -- ---- by words
 
-module _ (words : List ℕ) where
-  place : (i j : ℕ) → j < 64 → has words (i * 64 + j) ≡ bit_of (get_or words i 0) j
-  unfolding has
-  place i j l =
-      let q : word_index (i * 64 + j) ≡ i = omega arith in
-      let r : bit_index (i * 64 + j) ≡ j = omega arith in
-      rw (q, r)
-
-  -- the words are all 0 where no number is in the set, and only there
-  none_words : Small words → NoneBelow (has words) (length words * 64) → (i : ℕ) → get_or words i 0 ≡ 0
-  none_words f h i = bits_ext 64 (get_or words i 0) 0 (f i) (lit< tt) (λ j m. sym (place i j m) ∙ all (i * 64 + j) ∙ sym (bit_zero j))
-    where
-      all : (k : ℕ) → has words k ≡ false
-      all k = go (dec_lt k (length words * 64))
-        where
-          go : Dec (k < length words * 64) → has words k ≡ false
-          go (yes l) = h k l
-          go (no g) = has_past words k (omega arith)
-
-  pub words_none : ((i : ℕ) → get_or words i 0 ≡ 0) → (k : ℕ) → has words k ≡ false
-  unfolding has
-  words_none h k = rw (h (word_index k)) (bit_zero (bit_index k))
-
-  -- a number x that is 0 where all words are, and only there, tells whether the set is empty
-  pub empty_test : (x : ℕ) → Small words → (x ≡ 0 → (i : ℕ) → get_or words i 0 ≡ 0) → (((i : ℕ) → get_or words i 0 ≡ 0) → x ≡ 0)
-      → eqb x 0 ≡ is_nothing (highest_below words (length words * 64))
-  empty_test x f down up = go (is_nothing (highest_below words n)) refl
-    where
-      n : ℕ
-      n = length words * 64
-
-      go : (b : Bool) → is_nothing (highest_below words n) ≡ b → eqb x 0 ≡ b
-      go true e = eq-eqb x 0 (up (none_words f ((empty_none words n).0 e)))
-      go false e = ne_eqb x 0 (λ q. true≢false (sym ((empty_none words n).1 (λ k l. words_none (down q) k)) ∙ e))
+place : (words : List ℕ) (i j : ℕ) → j < 64 → has words (i * 64 + j) ≡ bit_of (get_or words i 0) j
+unfolding has
+place words i j l =
+    let q : word_index (i * 64 + j) ≡ i = omega arith in
+    let r : bit_index (i * 64 + j) ≡ j = omega arith in
+    rw (q, r)
 
 -- a set is what its numbers are
 pub words_ext : (words other : List ℕ) → length words ≡ length other → Small words → Small other
@@ -221,3 +212,26 @@ words_ext words other q f g h =
     ext_get_or 0 words other q (λ i l.
     bits_ext 64 (get_or words i 0) (get_or other i 0) (f i) (g i) (λ j m.
     sym (place words i j m) ∙ h (i * 64 + j) (omega arith) ∙ place other i j m))
+
+-- ---- no word but 0
+
+pub zeros : (n i : ℕ) → get_or {A = ℕ} (replicate n 0) i 0 ≡ 0
+zeros zero i = refl
+zeros (suc n) zero = refl
+zeros (suc n) (suc i) = zeros n i
+
+pub zeros_small : (n : ℕ) → Small (replicate n 0)
+zeros_small n i = rw (zeros n i) (pow_pos 64)
+
+pub zeros_has : (n k : ℕ) → has (replicate n 0) k ≡ false
+unfolding has
+zeros_has n k = rw (zeros n (word_index k)) (bit_zero (bit_index k))
+
+-- a set has no number where all its words are 0, and only there
+pub empty_decides : (words : List ℕ) (n : ℕ) → length words ≡ n → Small words
+    → Decides (is_nothing (highest_below words (n * 64))) (words ≡ replicate n 0)
+empty_decides words n l f = (
+  λ e. words_ext words (replicate n 0) (l ∙ sym (length-replicate n 0)) f (zeros_small n) (λ k m.
+      (empty_none words (n * 64)).0 e k (rw (← l) m) ∙ sym (zeros_has n k)),
+  λ e. (empty_none words (n * 64)).1 (λ k m. rw e (zeros_has n k)),
+)

@@ -1,5 +1,6 @@
-pub mod Bits
+pub mod Digits
 pub mod Laws
 pub mod Sets
+pub mod Walk
 pub mod Callers
 pub mod Examples

@@ -2,10 +2,8 @@
 -- proved only with these laws. They fix each operation by the numbers that the set has, and by nothing else.
 -- `Fit` is what each value of a program satisfies: two sets that fit and have the same numbers are equal.
 use Rattle.std.specs.Prelude.{◌≡◌, Bool, true, false, not, ◌&&◌, ◌||◌, ◌↔◌, ℕ, ◌^◌, ◌≤◌, ◌<◌, eqb, Option, Some, None}
-use Rattle.bits.specs.declared.one_word.Bits64.{Bits64}
-use Rattle.bits.specs.declared.four_words.Bits256.{Bits256}
 use Rattle.bits.specs.Members.{NoneBelow, Top}
-use Rattle.bits.specs.Sets.{Fit64, has64, none64, mark64, clear64, empty64, highest64, Fit256, has256, none256, mark256, clear256, empty256, highest256}
+use Rattle.bits.specs.Sets.{Bits64, Bits256, word64, has_number, no_numbers, mark_number, clear_number, is_empty, highest_number, Fit}
 
 pub record SetLaws (S : Type 0) (n : ℕ) (Fit : S → Type 0) (has : S → ℕ → Bool) (none : S)
     (mark clear : S → ℕ → S) (empty : S → Bool) (highest : S → Option ℕ) : Type 0 where
@@ -23,7 +21,7 @@ pub record SetLaws (S : Type 0) (n : ℕ) (Fit : S → Type 0) (has : S → ℕ 
   pub clear_fit : (s : S) (v : ℕ) → Fit s → Fit (clear s v)
 
 pub record Lawful : Type 0 where
-  pub one_word : SetLaws Bits64 64 Fit64 has64 none64 mark64 clear64 empty64 highest64
-  pub four_words : SetLaws Bits256 256 Fit256 has256 none256 mark256 clear256 empty256 highest256
+  pub one_word : SetLaws Bits64 64 Fit has_number no_numbers mark_number clear_number is_empty highest_number
+  pub four_words : SetLaws Bits256 256 Fit has_number no_numbers mark_number clear_number is_empty highest_number
   -- that a set has no number from n on is a bound on its word
-  pub below : (s : Bits64) (n : ℕ) → Fit64 s → (s.word < 2 ^ n) ↔ ((k : ℕ) → n ≤ k → has64 s k ≡ false)
+  pub below : (s : Bits64) (n : ℕ) → word64 s < 2 ^ 64 → (word64 s < 2 ^ n) ↔ ((k : ℕ) → n ≤ k → has_number s k ≡ false)

@@ -1,4 +1,4 @@
--- THE MEANING, for both types: a set is a list of words of 64 bits, and number k is one bit of one word.
+-- THE MEANING: a set is a list of words of 64 bits, and number k is one bit of one word.
 -- Which numbers a set has, the set with one more and with one less, and which is the highest are said here and nowhere else.
 use Rattle.std.specs.Prelude.{◌≡◌, Bool, true, false, cond, List, ℕ, zero, suc, ◌<◌, get_or, set, Option, Some, None}
 use Rattle.bits.specs.Word.{word_index, bit_index, bit_of, set_bit, clear_bit}

@@ -1,67 +1,48 @@
--- The sets of the two types, and what each method makes of them: `Members.antt` over their words.
--- The words of a set are taken one by one, so that they are one or four whatever list it holds: a law then asks nothing of the set.
-use Rattle.std.specs.Prelude.{◌≡◌, Bool, List, [], ◌∷◌, ℕ, ◌^◌, ◌<◌, length, get_or, Option}
-use Rattle.bits.specs.declared.one_word.Bits64.{Bits64}
-use Rattle.bits.specs.declared.four_words.Bits256.{Bits256}
+-- The sets of n words, and what each method makes of them: `Members.antt` over their words.
+-- The words of a set are taken one by one, so that they are n whatever list it holds: a law then asks nothing of the set.
+use Rattle.std.specs.Prelude.{◌≡◌, Bool, List, [], ◌∷◌, ℕ, zero, suc, ◌*◌, ◌^◌, ◌<◌, length, get_or, drop, replicate, Option}
+use Rattle.bits.specs.declared.set.Bits.{Bits}
 use Rattle.bits.specs.Members.{has, marked, cleared, highest_below, is_nothing}
 
--- ---- the numbers 0-63, in one word
+-- the numbers 0-63, in one word
+abbrev pub Bits64 : Type 0
+Bits64 = Bits 1
 
-abbrev pub words64 : Bits64 → List ℕ
-words64 s = s.word ∷ []
+-- the numbers 0-255, in four words
+abbrev pub Bits256 : Type 0
+Bits256 = Bits 4
 
-abbrev pub make64 : List ℕ → Bits64
-make64 words = record { word = get_or words 0 0 }
+-- the first n of some words, each 0 that they do not have
+abbrev pub first_words : ℕ → List ℕ → List ℕ
+first_words zero words = []
+first_words (suc n) words = get_or words 0 0 ∷ first_words n (drop 1 words)
 
-unfoldable pub has64 : Bits64 → ℕ → Bool
-has64 s k = has (words64 s) k
+abbrev pub words_of : {n : ℕ} → Bits n → List ℕ
+words_of {n} s = first_words n s.words
 
-unfoldable pub none64 : Bits64
-none64 = make64 (0 ∷ [])
+abbrev pub word64 : Bits64 → ℕ
+word64 s = get_or s.words 0 0
 
-unfoldable pub mark64 : Bits64 → ℕ → Bits64
-mark64 s v = make64 (marked (words64 s) v)
+unfoldable pub has_number : {n : ℕ} → Bits n → ℕ → Bool
+has_number s k = has (words_of s) k
 
-unfoldable pub clear64 : Bits64 → ℕ → Bits64
-clear64 s v = make64 (cleared (words64 s) v)
+unfoldable pub no_numbers : {n : ℕ} → Bits n
+no_numbers {n} = record { words = replicate n 0 }
 
-unfoldable pub highest64 : Bits64 → Option ℕ
-highest64 s = highest_below (words64 s) 64
+unfoldable pub mark_number : {n : ℕ} → Bits n → ℕ → Bits n
+mark_number s v = record { words = marked (words_of s) v }
 
-unfoldable pub empty64 : Bits64 → Bool
-empty64 s = is_nothing (highest64 s)
+unfoldable pub clear_number : {n : ℕ} → Bits n → ℕ → Bits n
+clear_number s v = record { words = cleared (words_of s) v }
 
--- a word of 64 bits, as each Bits64 of a program has
-abbrev pub Fit64 : Bits64 → Type 0
-Fit64 s = s.word < 2 ^ 64
+-- the numbers of the code are bytes: below 256
+unfoldable pub highest_number : {n : ℕ} → Bits n → Option ℕ
+highest_number s = highest_below (words_of s) 256
 
--- ---- the numbers 0-255, in four words
+unfoldable pub is_empty : {n : ℕ} → Bits n → Bool
+is_empty {n} s = is_nothing (highest_below (words_of s) (n * 64))
 
-abbrev pub words256 : Bits256 → List ℕ
-words256 s = get_or s.words 0 0 ∷ get_or s.words 1 0 ∷ get_or s.words 2 0 ∷ get_or s.words 3 0 ∷ []
-
-abbrev pub make256 : List ℕ → Bits256
-make256 words = record { words = words }
-
-unfoldable pub has256 : Bits256 → ℕ → Bool
-has256 s k = has (words256 s) k
-
-unfoldable pub none256 : Bits256
-none256 = make256 (0 ∷ 0 ∷ 0 ∷ 0 ∷ [])
-
-unfoldable pub mark256 : Bits256 → ℕ → Bits256
-mark256 s v = make256 (marked (words256 s) v)
-
-unfoldable pub clear256 : Bits256 → ℕ → Bits256
-clear256 s v = make256 (cleared (words256 s) v)
-
-unfoldable pub highest256 : Bits256 → Option ℕ
-highest256 s = highest_below (words256 s) 256
-
-unfoldable pub empty256 : Bits256 → Bool
-empty256 s = is_nothing (highest256 s)
-
--- four words of 64 bits, as each Bits256 of a program has
-pub record Fit256 (s : Bits256) : Type 0 where
-  pub long : length s.words ≡ 4
+-- n words of 64 bits, as each `Bits n` of a program has
+pub record Fit {n : ℕ} (s : Bits n) : Type 0 where
+  pub long : length s.words ≡ n
   pub small : (i : ℕ) → get_or s.words i 0 < 2 ^ 64

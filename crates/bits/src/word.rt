@@ -1,4 +1,6 @@
 // One word: its bits, counted from the lowest, which is bit 0. A number stands for its remainder by 64, so each function is total.
+#![tactic(auto, using(crate::proofs::Digits::one_shl, crate::proofs::Digits::shr_and_one), unfolding(crate::specs::Word::set_bit, crate::specs::Word::clear_bit))]
+
 ghost use Rattle.std.specs.Prelude.{◌≡◌};
 ghost use Rattle.bits.specs.Word.{bit_index, bit_of, set_bit, clear_bit};
 

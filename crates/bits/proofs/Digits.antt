@@ -9,7 +9,7 @@ use native.Mathlib.Nat.{not-suc-le-zero, le_of_suc-le-suc, div-eq_of_lt, div-eq_
 use native.Mathlib.Omega.{arith}
 use native.Mathlib.Decide.{dec_lt}
 use native.Mathlib.Numerals.{one-add}
-use lib.Bits.{bit_and, bit_or, or_step, or_shr, and_step, and_shr, and_mask, or_lt, shifted_even, or_add_and, and_le_l, and_le_r}
+use lib.Bits.{bit_and, bit_or, or_step, or_shr, and_step, and_shr, and_mask, or_lt, shifted_even, and_le_l}
 use lib.Pow.{pow-lt, pow-add, shl_exact, shl-shr, shr-shr}
 use lib.Dec.{eqb, lit<}
 use borrow.Author.Tests.{eqb-false}
@@ -184,7 +184,3 @@ one_shl j l = shl_exact 1 j 64 (lit< tt) (omega arith) ∙ one-mul (2 ^ j)
 pub shr_and_one : (w j : ℕ) → eqb (bit_and (w / 2 ^ j) 1) 1 ≡ bit_of w j
 unfolding bit_of
 shr_and_one w j = ap (λ (x : ℕ). eqb x 1) (and_mask (w / 2 ^ j) 1)
-
--- `a | b` is 0 where both are
-pub or_zero_both : (a b : ℕ) → bit_or a b ≡ 0 → (a ≡ 0) × (b ≡ 0)
-or_zero_both a b e = omega (arith, or_add_and a b, and_le_l a b, and_le_r a b)
