@@ -1,6 +1,8 @@
 -- Different answers have different bytes: an answer can be read off its bytes (`answer_at`), where no injected vector is 00 and no
 -- kicked CPU FF. The code tells the case, and each field stands in bytes of its own.
-use Rattle.std.specs.Prelude.{Option, Some, None}
+use Rattle.std.specs.Prelude.{Option, Some, None, [], ◌∷◌}
+use Rattle.bits.proofs.Sets.{words_are}
+use Rattle.bits.specs.Sets.{word64}
 use Rattle.meaning.specs.declared.answer.SubjectVector.{SubjectVector}
 use Prim.Native.Nat.{ℕ, ◌+◌, ◌*◌, ◌/◌, ◌%◌, ◌<◌}
 use mathlib.Core.Bool.{Bool, true, false, cond}
@@ -94,7 +96,7 @@ answer_at bytes =
     (cond (eqb (byte 0) 4) (Stopped (byte 1) (reason_at (byte 3)))
     (cond (eqb (byte 0) 5) Chosen
     (cond (eqb (byte 0) 6) (Report (byte 1) (number 2) (number 4))
-    (cond (eqb (byte 0) 7) (Masks (record { word = byte 1 * 65536 + byte 2 * 256 + byte 3 }))
+    (cond (eqb (byte 0) 7) (Masks (record { words = (byte 1 * 65536 + byte 2 * 256 + byte 3) ∷ [] }))
     (Refused (refusal_at (byte 0))))))))))
 
 halves : (n : ℕ) → n / 256 * 256 + n % 256 ≡ n
@@ -123,7 +125,9 @@ back (GoOn subject left) f t = rw (halves left)
 back (Stopped subject reason) f t = rw (reason_back reason)
 back Chosen f t = refl
 back (Report partition now last) f t = rw (halves now, halves last)
-back (Masks lines) f t = ap (λ (w : ℕ). Masks (record { word = w })) (thirds lines.word f)
+back (Masks lines) f t =
+    ap (λ (w : ℕ). Masks (record { words = w ∷ [] })) (thirds (word64 lines) f.1)
+    ∙ ap (λ (ws : List ℕ). Masks (record { words = ws })) (words_are lines f.0)
 back (Refused r) f t = refusal_back r
 
 pub distinct : (a b : Answer) → Fits a → Fits b → Telling a → Telling b → bytes_of a ≡ bytes_of b → a ≡ b

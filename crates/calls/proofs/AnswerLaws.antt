@@ -10,8 +10,7 @@ use lib.Pow.{shr-shr, field, mod-mod-pow}
 use lib.ListN.{length, get_or, take}
 use Rattle.bits.specs.Word.{bit_of}
 use Rattle.bits.specs.Members.{has}
-use Rattle.bits.specs.Sets.{has64}
-use Rattle.bits.specs.declared.one_word.Bits64.{Bits64}
+use Rattle.bits.specs.Sets.{has_number, Bits64, word64}
 use Rattle.hexline.specs.Lines.{line_of, spelled}
 use Rattle.hexline.specs.Writes.{line_text}
 use Rattle.hexline.specs.Lawful.{Bytes}
@@ -90,7 +89,7 @@ all_small (GoOn subject left) f = omega arith
 all_small (Stopped subject reason) f = omega (arith, number_small reason)
 all_small Chosen f = omega arith
 all_small (Report partition now last) f = omega arith
-all_small (Masks lines) f = omega arith
+all_small (Masks lines) f = omega (arith, f.1)
 all_small (Refused r) f = omega (arith, (code_range r).1)
 
 pub bytes : (a : Answer) → Fits a → Bytes (bytes_of a)
@@ -132,18 +131,18 @@ byte_bit w j i h =
     let odd : x / 2 ^ i % 2 ^ (8 - i) % 2 ≡ x / 2 ^ i % 2 = rw e' at (mod-mod-pow (x / 2 ^ i) (7 - i) 1) in
     ap (λ (y : ℕ). y % 2) cut ∙ odd ∙ ap (λ (y : ℕ). y % 2) (shr-shr w (8 * j) i)
 
-mask_byte : (lines : Bits64) (j : ℕ) → j < 3 → get_or (bytes_of (Masks lines)) (3 - j) 0 ≡ lines.word / 2 ^ (8 * j) % 256
+mask_byte : (lines : Bits64) (j : ℕ) → j < 3 → get_or (bytes_of (Masks lines)) (3 - j) 0 ≡ word64 lines / 2 ^ (8 * j) % 256
 unfolding bytes_of
 mask_byte lines zero h = omega arith
 mask_byte lines (suc zero) h = refl
 mask_byte lines (suc (suc zero)) h = refl
 mask_byte lines (suc (suc (suc j))) h = absurd (omega arith)
 
-pub masked : (lines : Bits64) (k : ℕ) → k < 24 → bit_of (get_or (bytes_of (Masks lines)) (3 - k / 8) 0) (k % 8) ≡ has64 lines k
-unfolding bit_of has64 has
+pub masked : (lines : Bits64) (k : ℕ) → k < 24 → bit_of (get_or (bytes_of (Masks lines)) (3 - k / 8) 0) (k % 8) ≡ has_number lines k
+unfolding bit_of has_number has
 masked lines k h =
     let here : k / 64 ≡ 0 = omega arith in
     let same : k % 64 ≡ k = omega arith in
     let place : 8 * (k / 8) + k % 8 ≡ k = omega arith in
-    let bit = byte_bit lines.word (k / 8) (k % 8) (omega arith) in
+    let bit = byte_bit (word64 lines) (k / 8) (k % 8) (omega arith) in
     rw (mask_byte lines (k / 8) (omega arith), bit, place, here, same)

@@ -101,7 +101,7 @@ session_answers =
     ∷ (Refused refusal.NobodyEntered)
     ∷ (Enter 1 2 (Some (record { 0 = 64 })) false quiet)
     ∷ (Report 0 0 2)
-    ∷ (Masks (record { word = 1024 }))
+    ∷ (Masks (record { words = 1024 ∷ [] }))
     ∷ []
 
 -- the right column of the table
@@ -139,7 +139,7 @@ others : map bytes_of
     ∷ GoOn 255 1
     ∷ Chosen
     ∷ Report 7 258 772
-    ∷ Masks (record { word = 8388609 })
+    ∷ Masks (record { words = 8388609 ∷ [] })
     ∷ [])
     ≡ (0 ∷ 15 ∷ 15 ∷ 160 ∷ 255 ∷ 2 ∷ 255 ∷ [])
     ∷ (0 ∷ 3 ∷ 0 ∷ 1 ∷ 0 ∷ 7 ∷ 0 ∷ [])

@@ -1,6 +1,7 @@
 -- Document 01's "Answer lines": "Seven bytes: code; subject or FF; ticks left in the minor frame (two); injected vector or 00; bits 1
 -- advance, 2 reset, 4 new frame (this tick opened a major frame); kicked CPU or FF." Two-byte numbers have the high byte first.
-use Rattle.std.specs.Prelude.{ℕ, ◌+◌, ◌/◌, ◌%◌, ◌^◌, ◌<◌, Bool, false, cond, ◌≡◌, List, [], ◌∷◌, Option, Some, None}
+use Rattle.std.specs.Prelude.{ℕ, ◌+◌, ◌/◌, ◌%◌, ◌^◌, ◌<◌, Bool, false, cond, ◌≡◌, List, [], ◌∷◌, Option, Some, None, length}
+use Rattle.bits.specs.Sets.{word64}
 use Rattle.meaning.specs.declared.answer.SubjectVector.{SubjectVector}
 use Rattle.calls.specs.declared.answer.Reason.{Reason}
 use Rattle.calls.specs.declared.answer.Reason.TheVariants.{Reboot, PowerOff, Panic, HighTrap}
@@ -61,7 +62,7 @@ bytes_of (GoOn subject left) = 3 ∷ subject ∷ left / 256 ∷ left % 256 ∷ 0
 bytes_of (Stopped subject reason) = 4 ∷ subject ∷ 0 ∷ number_of reason ∷ 0 ∷ 0 ∷ nobody ∷ []
 bytes_of Chosen = 5 ∷ unused
 bytes_of (Report partition now last) = 6 ∷ partition ∷ now / 256 ∷ now % 256 ∷ last / 256 ∷ last % 256 ∷ 0 ∷ []
-bytes_of (Masks lines) = 7 ∷ lines.word / 65536 % 256 ∷ lines.word / 256 % 256 ∷ lines.word % 256 ∷ 0 ∷ 0 ∷ 0 ∷ []
+bytes_of (Masks lines) = 7 ∷ word64 lines / 65536 % 256 ∷ word64 lines / 256 % 256 ∷ word64 lines % 256 ∷ 0 ∷ 0 ∷ 0 ∷ []
 bytes_of (Refused refused) = code_of refused ∷ unused
 
 -- ---- what the laws speak of
@@ -83,7 +84,7 @@ Fits (GoOn subject left) = (subject < 256) × (left < 65536)
 Fits (Stopped subject reason) = subject < 256
 Fits Chosen = Unit
 Fits (Report partition now last) = (partition < 256) × ((now < 65536) × (last < 65536))
-Fits (Masks lines) = lines.word < 2 ^ 24
+Fits (Masks lines) = (length lines.words ≡ 1) × (word64 lines < 2 ^ 24)
 Fits (Refused refused) = Unit
 
 -- no injected vector is 00 and no kicked CPU FF, which say none

@@ -2,8 +2,7 @@
 -- call's line, and is ill formed exactly if it is no call's; an answer has seven bytes, which tell it and which its line is read as.
 use Rattle.std.specs.Prelude.{ℕ, ◌-◌, ◌/◌, ◌%◌, ◌≤◌, ◌<◌, ◌≡◌, ◌↔◌, List, ◌++◌, length, get_or, take, Option, Some, None}
 use Rattle.bits.specs.Word.{bit_of}
-use Rattle.bits.specs.Sets.{has64}
-use Rattle.bits.specs.declared.one_word.Bits64.{Bits64}
+use Rattle.bits.specs.Sets.{has_number, Bits64}
 use Rattle.hexline.specs.Digits.{newline}
 use Rattle.hexline.specs.Lines.{line_length, line_of, spelled}
 use Rattle.hexline.specs.Writes.{line_text}
@@ -42,7 +41,7 @@ pub record Lawful : Type 0 where
   pub refused : (r : Refusal) → (get_or (bytes_of (Refused r)) 0 0 ≡ code_of r) × (128 ≤ code_of r)
   pub accepted : (a : Answer) → ((r : Refusal) → a ≡ Refused r → ⊥) → get_or (bytes_of a) 0 0 ≤ 7
   -- "masked lines (three, line 0 lowest bit)": eight lines a byte, those from 0 on in the last
-  pub masked : (lines : Bits64) (k : ℕ) → k < 24 → bit_of (get_or (bytes_of (Masks lines)) (3 - k / 8) 0) (k % 8) ≡ has64 lines k
+  pub masked : (lines : Bits64) (k : ℕ) → k < 24 → bit_of (get_or (bytes_of (Masks lines)) (3 - k / 8) 0) (k % 8) ≡ has_number lines k
   -- an answer's line, whatever follows it, is read as the answer's bytes
   pub read_back : (a : Answer) (rest : List ℕ) → Fits a
       → (line_of (line_text (bytes_of a) ++ rest) ≡ Whole 7 15) × (take 7 (spelled (line_text (bytes_of a) ++ rest)) ≡ bytes_of a)

@@ -78,7 +78,7 @@ pub fn answer_bytes(answer: Answer) -> [u8; 7]
             [REPORT, partition, now_high, now_low, last_high, last_low, 0]
         }
         Answer::Masks { lines } => {
-            let [.., high, middle, low] = lines.word.to_be_bytes();
+            let [.., high, middle, low] = lines.words[0].to_be_bytes();
             [MASKS, high, middle, low, 0, 0, 0]
         }
         Answer::Refused(refusal) => [refusal.code(), NONE, 0, 0, 0, 0, NONE],

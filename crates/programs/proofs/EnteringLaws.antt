@@ -8,9 +8,8 @@ use mathlib.Core.Path.{◌≡◌, refl, ap, sym, subst, ◌∙◌}
 use native.Mathlib.Omega.{arith}
 use Rattle.std.proofs.lemmas.Option.{none-some}
 use lib.Dec.{eqb}
-use Rattle.bits.specs.declared.one_word.Bits64.{Bits64}
+use Rattle.bits.specs.Sets.{Bits64, has_number, highest_number}
 use Rattle.bits.specs.Members.{NoneBelow, Top}
-use Rattle.bits.specs.Sets.{has64, has256, highest256}
 use Rattle.bits.proofs.Sets.{one_word, four_words}
 use Rattle.bits.proofs.Callers.{top_highest, none_highest}
 use Rattle.rows.specs.Lookups.{counts_of}
@@ -37,15 +36,15 @@ record Injected (x : Subject) (i : Injection) : Type 0 where
   events : i.subject.events ≡ x.events
   opened : i.subject.«open» ≡ x.«open»
   closed : x.«open» ≡ false → i.vector ≡ None
-  none_pending : NoneBelow (has256 x.vectors) 256 → i.vector ≡ None
-  highest : (v : ℕ) → x.«open» ≡ true → Top (has256 x.vectors) 256 v → i.vector ≡ Some v
-  vectors : VectorTaken (has256 x.vectors) i.subject i.vector
+  none_pending : NoneBelow (has_number x.vectors) 256 → i.vector ≡ None
+  highest : (v : ℕ) → x.«open» ≡ true → Top (has_number x.vectors) 256 v → i.vector ≡ Some v
+  vectors : VectorTaken (has_number x.vectors) i.subject i.vector
 
-kept_vectors : (x : Subject) → VectorTaken (has256 x.vectors) x None
+kept_vectors : (x : Subject) → VectorTaken (has_number x.vectors) x None
 kept_vectors x = record { none = λ e u. refl; one = λ v e. absurd (none-some v e) }
 
 module _ (x : Subject) where
-  taken_at : (h : Option ℕ) → x.«open» ≡ true → highest256 x.vectors ≡ h → Injected x (vector_taken_at x h)
+  taken_at : (h : Option ℕ) → x.«open» ≡ true → highest_number x.vectors ≡ h → Injected x (vector_taken_at x h)
   unfolding vector_taken_at vector_cleared
   taken_at None o e = record {
     events = refl;
@@ -71,8 +70,8 @@ module _ (x : Subject) where
   unfolding vector_taken
   vector_taken_lem = go x.«open» refl
     where
-      go : (t : Bool) → x.«open» ≡ t → Injected x (cond t (vector_taken_at x (highest256 x.vectors)) (record { subject = x; vector = None }))
-      go true e = taken_at (highest256 x.vectors) e refl
+      go : (t : Bool) → x.«open» ≡ t → Injected x (cond t (vector_taken_at x (highest_number x.vectors)) (record { subject = x; vector = None }))
+      go true e = taken_at (highest_number x.vectors) e refl
       go false e = record {
         events = refl;
         opened = refl;
@@ -85,10 +84,10 @@ module _ (x : Subject) where
 -- ---- the event, and what is pending then
 
 record Reacted (x : Subject) (taken : ℕ → Bool) (action : TargetAction) (t : Taken) : Type 0 where
-  events : (e : ℕ) → has64 t.subject.events e ≡ (not (taken e) && has64 x.events e)
+  events : (e : ℕ) → has_number t.subject.events e ≡ (not (taken e) && has_number x.events e)
   opened : t.subject.«open» ≡ open_then action x
   reset_said : t.reset ≡ resets action
-  vectors : (u : ℕ) → has256 t.subject.vectors u ≡ pending_then action x u
+  vectors : (u : ℕ) → has_number t.subject.vectors u ≡ pending_then action x u
 
 abbrev ActionFits : TargetAction → Type 0
 ActionFits target.Nothing = Unit
@@ -121,7 +120,7 @@ reacted_exactly x event target.Reset f =
 entered : (x : Subject) (taken : ℕ → Bool) (a : TargetAction) (t : Taken) (i : Injection) → Reacted x taken a t → Injected t.subject i
     → Entered x taken a i.subject t.reset i.vector
 entered x taken a t i r j = record {
-  events = λ e. ap (λ (b : Bits64). has64 b e) j.events ∙ r.events e;
+  events = λ e. ap (λ (b : Bits64). has_number b e) j.events ∙ r.events e;
   opened = j.opened ∙ r.opened;
   reset_said = r.reset_said;
   closed = λ o. j.closed (r.opened ∙ o);
@@ -144,13 +143,13 @@ module _ (rows : List ℕ) (s : Programs) (x : ℕ) (h : Facts rows) (f : Formed
       subst (λ (z : Subject). Entered (subject_at s x) taken a z (entering rows s x).reset (entering rows s x).vector)
       (sym (subject_same s x _ f l)) (entered (subject_at s x) taken a _ _ r (vector_taken_lem _))
 
-  none_taken : NoneBelow (has64 (subject_at s x).events) 64 → Reacted (subject_at s x) (λ e. false) target.Nothing (event_taken rows x (subject_at s x))
+  none_taken : NoneBelow (has_number (subject_at s x).events) 64 → Reacted (subject_at s x) (λ e. false) target.Nothing (event_taken rows x (subject_at s x))
   unfolding event_taken event_taken_at
   none_taken n =
       rw (none_highest one_word (subject_at s x).events n)
       (record { events = λ e. refl; opened = refl; reset_said = refl; vectors = λ u. refl })
 
-  highest_taken : (event : ℕ) → Top (has64 (subject_at s x).events) 64 event
+  highest_taken : (event : ℕ) → Top (has_number (subject_at s x).events) 64 event
       → Reacted (subject_at s x) (λ e. eqb e event) (target_event rows x event) (event_taken rows x (subject_at s x))
   unfolding event_taken event_taken_at
   highest_taken event t =

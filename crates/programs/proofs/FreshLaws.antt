@@ -12,7 +12,7 @@ use lib.Dec.{eqb}
 use lib.ListN.{get_or, replicate}
 use borrow.Author.Tests.{eq-eqb}
 use Rattle.std.proofs.lemmas.List.FromFn.{get_or-map-range_with_len}
-use Rattle.bits.specs.Sets.{has64}
+use Rattle.bits.specs.Sets.{has_number}
 use Rattle.bits.proofs.Sets.{one_word, four_words}
 use Rattle.rows.specs.Lookups.{counts_of, partition_of, group_of}
 use Rattle.accepted.specs.Facts.{Facts}
@@ -115,7 +115,7 @@ module _ (rows : List ℕ) (f : Facts rows) where
   unfolding fresh_subject
   closed x = ap (λ (y : Subject). y.«open») (fresh_subject_lem rows x)
 
-  unmasked : (line : ℕ) → has64 (fresh_programs rows).masks line ≡ false
+  unmasked : (line : ℕ) → has_number (fresh_programs rows).masks line ≡ false
   unfolding fresh_programs
   unmasked line = one_word.none_has line
 

@@ -10,7 +10,7 @@ use lib.Dec.{eqb}
 use lib.ListN.{length, get_or, set, length-set}
 use lib.Seq.{get_or-set_same, get_or-set_other}
 use borrow.Author.Tests.{eq-eqb, ne_eqb}
-use Rattle.bits.specs.declared.one_word.Bits64.{Bits64}
+use Rattle.bits.specs.Sets.{Bits64}
 use Rattle.programs.specs.declared.group.Group.{Group}
 use Rattle.programs.specs.declared.subject.Subject.{Subject}
 use Rattle.programs.specs.declared.whole.Programs.{Programs}

@@ -8,10 +8,8 @@ use mathlib.Core.Path.{◌≡◌, refl, ap, sym, ◌∙◌}
 use lib.Dec.{eqb}
 use borrow.Author.Tests.{eq-eqb, eqb-true}
 use Rattle.hexline.proofs.Cond.{both}
-use Rattle.bits.specs.declared.one_word.Bits64.{Bits64}
-use Rattle.bits.specs.declared.four_words.Bits256.{Bits256}
+use Rattle.bits.specs.Sets.{Bits64, Bits256, has_number, is_empty}
 use Rattle.bits.specs.Members.{NoneBelow, Top}
-use Rattle.bits.specs.Sets.{has64, empty64, has256}
 use Rattle.bits.proofs.Sets.{one_word, four_words}
 use Rattle.bits.proofs.Callers.{cases, has_empty, none_empty}
 use Rattle.rows.specs.Lookups.{counts_of, group_of}
@@ -30,14 +28,14 @@ use Rattle.programs.specs.Exactly.{Pending, PendingOf}
 pub pending_tested : (x : Subject) → Pending x → has_pending x ≡ true
 unfolding has_pending
 pending_tested x (inl e) = rw (has_empty one_word x.events e.0 e.1)
-pending_tested x (inr u) = rw (has_empty four_words x.vectors u.0 u.1) (or-true (not (empty64 x.events)))
+pending_tested x (inr u) = rw (has_empty four_words x.vectors u.0 u.1) (or-true (not (is_empty x.events)))
 
 pub tested_pending : (x : Subject) → has_pending x ≡ true → Pending x
 unfolding has_pending
 tested_pending x e = go (cases one_word x.events) (cases four_words x.vectors)
   where
-    go : ((v : ℕ) × Top (has64 x.events) 64 v) ⊎ NoneBelow (has64 x.events) 64
-        → ((v : ℕ) × Top (has256 x.vectors) 256 v) ⊎ NoneBelow (has256 x.vectors) 256 → Pending x
+    go : ((v : ℕ) × Top (has_number x.events) 64 v) ⊎ NoneBelow (has_number x.events) 64
+        → ((v : ℕ) × Top (has_number x.vectors) 256 v) ⊎ NoneBelow (has_number x.vectors) 256 → Pending x
     go (inl t) _ = inl (t.0, t.1.there)
     go (inr n) (inl t) = inr (t.0, t.1.there)
     go (inr n) (inr m) =
@@ -46,8 +44,8 @@ tested_pending x e = go (cases one_word x.events) (cases four_words x.vectors)
 
 -- pending is by the two sets alone
 pub pending_same : (a b : Subject) → a.events ≡ b.events → a.vectors ≡ b.vectors → Pending a → Pending b
-pending_same a b e v (inl p) = inl (p.0, ap (λ (k : Bits64). has64 k p.0) (sym e) ∙ p.1)
-pending_same a b e v (inr p) = inr (p.0, ap (λ (k : Bits256). has256 k p.0) (sym v) ∙ p.1)
+pending_same a b e v (inl p) = inl (p.0, ap (λ (k : Bits64). has_number k p.0) (sym e) ∙ p.1)
+pending_same a b e v (inr p) = inr (p.0, ap (λ (k : Bits256). has_number k p.0) (sym v) ∙ p.1)
 
 -- ---- "any subject of it has an event or vector pending"
 

@@ -13,9 +13,8 @@ use lib.Dec.{eqb}
 use lib.Pow.{pow_pos}
 use borrow.Author.Tests.{eqb-true}
 use Rattle.hexline.proofs.Cond.{by_cond}
-use Rattle.bits.specs.declared.one_word.Bits64.{Bits64}
-use Rattle.bits.specs.Sets.{none64, mark64, clear64}
-use Rattle.bits.proofs.Sets.{one_word, below}
+use Rattle.bits.specs.Sets.{Bits64, no_numbers, mark_number, clear_number, word64}
+use Rattle.bits.proofs.Sets.{one_word, below, mark_word, clear_word}
 use Rattle.bits.proofs.Callers.{mark_other}
 use Rattle.rows.specs.Lookups.{counts_of, partition_of, group_of}
 use Rattle.meaning.specs.declared.answer.HostVector.{HostVector}
@@ -48,7 +47,7 @@ module _ (rows : List ℕ) (s : Programs) (r : InRange rows s) where
   unfolding with_subject active_group active_subject group_at
   subject_range subject x = record { group = r.group; subject = r.subject; masks = r.masks }
 
-  masks_range : (masks : Bits64) → masks.word < 2 ^ 24 → InRange rows (with_masks s masks)
+  masks_range : (masks : Bits64) → word64 masks < 2 ^ 24 → InRange rows (with_masks s masks)
   unfolding with_masks active_group active_subject group_at
   masks_range masks l = record { group = r.group; subject = r.subject; masks = l }
 
@@ -92,17 +91,17 @@ and-false : (b : Bool) → b && false ≡ false
 and-false true = refl
 and-false false = refl
 
-fit : (m : Bits64) → m.word < 2 ^ 24 → m.word < 2 ^ 64
+fit : (m : Bits64) → word64 m < 2 ^ 24 → word64 m < 2 ^ 64
 fit m l = omega arith
 
-mark_range : (m : Bits64) (line : ℕ) → m.word < 2 ^ 24 → line ≤ 23 → (mark64 m line).word < 2 ^ 24
+mark_range : (m : Bits64) (line : ℕ) → word64 m < 2 ^ 24 → line ≤ 23 → word64 (mark_number m line) < 2 ^ 24
 mark_range m line l h =
-    (below (mark64 m line) 24 (one_word.mark_fit m line (fit m l))).1
+    (below (mark_number m line) 24 (mark_word m line (fit m l))).1
     (λ k a. mark_other one_word m line k (λ e. omega arith) ∙ (below m 24 (fit m l)).0 l k a)
 
-clear_range : (m : Bits64) (line : ℕ) → m.word < 2 ^ 24 → (clear64 m line).word < 2 ^ 24
+clear_range : (m : Bits64) (line : ℕ) → word64 m < 2 ^ 24 → word64 (clear_number m line) < 2 ^ 24
 clear_range m line l =
-    (below (clear64 m line) 24 (one_word.clear_fit m line (fit m l))).1
+    (below (clear_number m line) 24 (clear_word m line (fit m l))).1
     (λ k a. one_word.clear_has m line k ∙ rw ((below m 24 (fit m l)).0 l k a) (and-false (not (eqb k line))))
 
 -- ---- an interrupt
@@ -110,7 +109,7 @@ clear_range m line l =
 masked_range : (rows : List ℕ) (s : Programs) → InRange rows s → (line : Option IrqLine) → MaskingFits line → InRange rows (masked s line)
 unfolding masked
 masked_range rows s r None f = r
-masked_range rows s r (Some line) f = masks_range rows s r (mark64 s.masks line.0) (mark_range s.masks line.0 r.masks f)
+masked_range rows s r (Some line) f = masks_range rows s r (mark_number s.masks line.0) (mark_range s.masks line.0 r.masks f)
 
 interrupt_range : (rows : List ℕ) (s : Programs) (host : HostVector) → Facts rows → InRange rows s → InRange rows (interrupted rows s host)
 unfolding interrupted routed vector_pending
@@ -157,7 +156,7 @@ module _ (rows : List ℕ) (s : Programs) (f : Facts rows) (r : InRange rows s) 
           let h = f.handover subject event target e in
           group_range rows s r (group_of rows subject) (handed_to (group_at s (group_of rows subject)) target)
           (record { below = h.0; here = h.1.1 })
-      go (Unmask line) e = masks_range rows s r (clear64 s.masks line.0) (clear_range s.masks line.0 r.masks)
+      go (Unmask line) e = masks_range rows s r (clear_number s.masks line.0) (clear_range s.masks line.0 r.masks)
       go Reboot e = r
       go PowerOff e = r
       go Panic e = r
@@ -190,8 +189,8 @@ entry_range rows s subject r = subject_range rows s r subject _
 lowest_of : (home : ℕ → ℕ) (count place number : ℕ) → Lowest (λ n. eqb (home n) place) count number → Of home count place number
 lowest_of home count place number l = record { below = l.below; here = eqb-true (home number) place l.passes }
 
-unmasked_range : (rows : List ℕ) → (fresh_programs rows).masks.word < 2 ^ 24
-unfolding fresh_programs none64
+unmasked_range : (rows : List ℕ) → word64 (fresh_programs rows).masks < 2 ^ 24
+unfolding fresh_programs no_numbers
 unmasked_range rows = pow_pos 24
 
 fresh_range : (rows : List ℕ) → Facts rows → InRange rows (fresh_programs rows)

@@ -10,6 +10,7 @@ use native.Mathlib.Omega.{arith}
 use native.Mathlib.Numerals.{add-one}
 use lib.Dec.{ltb, eqb}
 use borrow.Author.Tests.{lt-ltb, ltb-true, eq-eqb, eqb-true}
+use Rattle.bits.specs.Sets.{word64}
 use Rattle.hexline.proofs.Cond.{both}
 use Rattle.rows.specs.Lookups.{counts_of, partition_of, group_of}
 use Rattle.rules.specs.Rules.{all_below}
@@ -55,12 +56,12 @@ module _ (rows : List ℕ) (s : Programs) where
     where
       to : programs_in_range rows s ≡ true → InRange rows s
       to e =
-          let a = both partitions (groups && ltb s.masks.word (2 ^ 24)) e in
-          let b = both groups (ltb s.masks.word (2 ^ 24)) a.1 in
+          let a = both partitions (groups && ltb (word64 s.masks) (2 ^ 24)) e in
+          let b = both groups (ltb (word64 s.masks) (2 ^ 24)) a.1 in
           record {
             group = λ q l. (group_test q).0 (below_at (counts_of rows).partitions (group_in_range rows s) a.0 q l);
             subject = λ g l. (subject_test g).0 (below_at (counts_of rows).groups (subject_in_range rows s) b.0 g l);
-            masks = ltb-true s.masks.word (2 ^ 24) b.1;
+            masks = ltb-true (word64 s.masks) (2 ^ 24) b.1;
           }
 
       from : InRange rows s → programs_in_range rows s ≡ true
@@ -69,4 +70,4 @@ module _ (rows : List ℕ) (s : Programs) where
             all_below_lem (counts_of rows).partitions (group_in_range rows s) (λ q l. (group_test q).1 (r.group q l)),
             all_below_lem (counts_of rows).groups (subject_in_range rows s) (λ g l. (subject_test g).1 (r.subject g l)),
           )
-          (lt-ltb s.masks.word (2 ^ 24) r.masks)
+          (lt-ltb (word64 s.masks) (2 ^ 24) r.masks)

@@ -7,8 +7,7 @@ use mathlib.Core.Bool.{◌||◌}
 use mathlib.Core.List.{List}
 use mathlib.Core.Path.{◌≡◌, refl, ap, ◌∙◌}
 use native.Mathlib.Omega.{arith}
-use Rattle.bits.specs.declared.one_word.Bits64.{Bits64}
-use Rattle.bits.specs.Sets.{has64, has256}
+use Rattle.bits.specs.Sets.{Bits64, has_number}
 use Rattle.bits.proofs.Sets.{one_word, four_words}
 use Rattle.rows.specs.Lookups.{counts_of}
 use Rattle.meaning.specs.declared.answer.HostVector.{HostVector}
@@ -45,10 +44,10 @@ module _ (s : Programs) where
   masked_actives None q = refl
   masked_actives (Some line) q = active_of_masks s _ q
 
-  pub masked_masks : (line : Option IrqLine) → MaskingFits line → (l : ℕ) → has64 (masked s line).masks l ≡ (is_line line l || has64 s.masks l)
+  pub masked_masks : (line : Option IrqLine) → MaskingFits line → (l : ℕ) → has_number (masked s line).masks l ≡ (is_line line l || has_number s.masks l)
   unfolding masked
   masked_masks None m l = refl
-  masked_masks (Some line) m l = ap (λ (a : Bits64). has64 a l) (masks_same s _) ∙ one_word.mark_has s.masks line.0 l (omega arith)
+  masked_masks (Some line) m l = ap (λ (a : Bits64). has_number a l) (masks_same s _) ∙ one_word.mark_has s.masks line.0 l (omega arith)
 
   pub masked_formed : (line : Option IrqLine) → Formed s → Formed (masked s line)
   unfolding masked
@@ -71,11 +70,11 @@ module _ (rows : List ℕ) (h : Facts rows) where
 
 module _ (rows : List ℕ) (h : Facts rows) (s : Programs) (f : Formed s) where
   routed_vectors : (r : Option Route) → RouteFits rows r → (y u : ℕ)
-      → has256 (subject_at (routed rows s r) y).vectors u ≡ (marks_vector r y u || has256 (subject_at s y).vectors u)
+      → has_number (subject_at (routed rows s r) y).vectors u ≡ (marks_vector r y u || has_number (subject_at s y).vectors u)
   unfolding routed vector_pending vector_marked
   routed_vectors None k y u = refl
   routed_vectors (Some route) k y u =
-      ap (λ (a : Subject). has256 a.vectors u) (masked_subjects _ route.line y ∙ woke_subjects rows _ route.subject y)
+      ap (λ (a : Subject). has_number a.vectors u) (masked_subjects _ route.line y ∙ woke_subjects rows _ route.subject y)
       ∙ marked_at four_words (λ a. a.vectors) s route.subject route.vector.0 _ refl f (subject_inside rows h route.subject k.0) (omega arith) y u
 
   routed_awake : (r : Option Route) → RouteFits rows r → (g : ℕ) → (group_at (routed rows s r) g).awake ≡ (wakes_routed rows r g || (group_at s g).awake)
@@ -84,11 +83,11 @@ module _ (rows : List ℕ) (h : Facts rows) (s : Programs) (f : Formed s) where
   routed_awake (Some route) k g =
       ap (λ (a : Group). a.awake) (masked_groups _ route.line g) ∙ pending_awake rows s route.subject _ g f (group_inside rows h route.subject k.0)
 
-  routed_masks : (r : Option Route) → RouteFits rows r → (l : ℕ) → has64 (routed rows s r).masks l ≡ (masks_line r l || has64 s.masks l)
+  routed_masks : (r : Option Route) → RouteFits rows r → (l : ℕ) → has_number (routed rows s r).masks l ≡ (masks_line r l || has_number s.masks l)
   unfolding routed vector_pending
   routed_masks None k l = refl
   routed_masks (Some route) k l =
-      masked_masks _ route.line k.1.1 l ∙ ap (λ (a : Bits64). is_line route.line l || has64 a l) (pending_masks rows s route.subject _)
+      masked_masks _ route.line k.1.1 l ∙ ap (λ (a : Bits64). is_line route.line l || has_number a l) (pending_masks rows s route.subject _)
 
 module _ (rows : List ℕ) (s : Programs) where
   -- what a route does not mark in a subject is as before

@@ -8,7 +8,7 @@ use mathlib.Core.Path.{◌≡◌, refl, ap, ◌∙◌}
 use native.Mathlib.Omega.{arith}
 use lib.Dec.{eqb}
 use borrow.Author.Tests.{eqb-true}
-use Rattle.bits.specs.Sets.{has64}
+use Rattle.bits.specs.Sets.{has_number}
 use Rattle.bits.specs.Lawful.{SetLaws}
 use Rattle.bits.proofs.Sets.{one_word}
 use Rattle.rows.specs.Lookups.{counts_of, group_of}
@@ -107,11 +107,11 @@ module _ (rows : List ℕ) (h : Facts rows) where
 
 module _ (rows : List ℕ) (h : Facts rows) (s : Programs) (f : Formed s) where
   pub signalled_events : (a : Option Signal) → SignalFits rows a → (y e : ℕ)
-      → has64 (subject_at (signalled rows s a) y).events e ≡ (marks_event a y e || has64 (subject_at s y).events e)
+      → has_number (subject_at (signalled rows s a) y).events e ≡ (marks_event a y e || has_number (subject_at s y).events e)
   unfolding signalled event_pending event_marked
   signalled_events None k y e = refl
   signalled_events (Some signal) k y e =
-      ap (λ (z : Subject). has64 z.events e) (woke_subjects rows _ signal.subject y)
+      ap (λ (z : Subject). has_number z.events e) (woke_subjects rows _ signal.subject y)
       ∙ marked_at one_word (λ z. z.events) s signal.subject signal.event _ refl f (subject_inside rows h signal.subject k.0) (omega arith) y e
 
   pub signalled_awake : (a : Option Signal) → SignalFits rows a → (g : ℕ) → (group_at (signalled rows s a) g).awake ≡ (wakes_target rows a g || (group_at s g).awake)

@@ -9,8 +9,7 @@ use native.Mathlib.Omega.{arith}
 use Rattle.std.proofs.lemmas.Option.{none-some}
 use lib.Dec.{eqb}
 use Rattle.hexline.proofs.Cond.{by_cond}
-use Rattle.bits.specs.declared.one_word.Bits64.{Bits64}
-use Rattle.bits.specs.Sets.{has64}
+use Rattle.bits.specs.Sets.{Bits64, has_number}
 use Rattle.bits.proofs.Sets.{one_word}
 use Rattle.rows.specs.Lookups.{counts_of, partition_of, group_of}
 use Rattle.meaning.specs.declared.answer.IrqLine.{IrqLine}
@@ -115,7 +114,7 @@ module _ (rows : List ℕ) (s : Programs) (x : ℕ) where
   pub unmasked_exactly : (line : IrqLine) → Unmasked line s (acted rows s x (Unmask line))
   unfolding acted unmasked
   unmasked_exactly line = record {
-    masks = λ l. ap (λ (a : Bits64). has64 a l) (masks_same s _) ∙ one_word.clear_has s.masks line.0 l;
+    masks = λ l. ap (λ (a : Bits64). has_number a l) (masks_same s _) ∙ one_word.clear_has s.masks line.0 l;
     groups = λ g. group_of_masks s _ g;
     active_groups = λ q. active_of_masks s _ q;
   }
@@ -175,7 +174,7 @@ signalled_exactly rows s x event h f k =
     record {
       events = λ y e.
           signalled_events rows h a g event.signal k y e
-          ∙ ap (λ (z : Subject). marks_event event.signal y e || has64 z.events e) (same y);
+          ∙ ap (λ (z : Subject). marks_event event.signal y e || has_number z.events e) (same y);
       vectors = λ y. signalled_part rows a (λ z. z.vectors) (λ z e. refl) event.signal y ∙ ap (λ (z : Subject). z.vectors) (same y);
       opened = λ y. signalled_part rows a (λ z. z.«open») (λ z e. refl) event.signal y ∙ ap (λ (z : Subject). z.«open») (same y);
       awake = signalled_awake rows h a g event.signal k;

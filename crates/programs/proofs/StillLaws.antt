@@ -6,9 +6,7 @@ use mathlib.Core.Bool.{Bool, true, false, cond, ◌||◌}
 use mathlib.Core.List.{List}
 use mathlib.Core.Path.{◌≡◌, refl, ap, ◌∙◌}
 use Rattle.hexline.proofs.Cond.{by_cond}
-use Rattle.bits.specs.declared.one_word.Bits64.{Bits64}
-use Rattle.bits.specs.declared.four_words.Bits256.{Bits256}
-use Rattle.bits.specs.Sets.{has64, has256}
+use Rattle.bits.specs.Sets.{Bits64, Bits256, has_number}
 use Rattle.rows.specs.Lookups.{partition_of, group_of}
 use Rattle.meaning.specs.declared.answer.HostVector.{HostVector}
 use Rattle.meaning.specs.declared.answer.Action.{Action}
@@ -44,7 +42,7 @@ no_switch rows s host h f =
       chosen = λ q e. go (active_group (interrupted rows s host) q) q (r.active_groups q) (still (wakes_routed rows (route_of rows host) (active_group s q)) _ _ (r.awake (active_group s q)) e);
       active_subjects = r.active_subjects;
       active_groups = r.active_groups;
-      lost = record { events = λ y e p. ap (λ (b : Bits64). has64 b e) (r.events y) ∙ p; vectors = λ y u p. still (marks_vector (route_of rows host) y u) _ _ (r.vectors y u) p };
+      lost = record { events = λ y e p. ap (λ (b : Bits64). has_number b e) (r.events y) ∙ p; vectors = λ y u p. still (marks_vector (route_of rows host) y u) _ _ (r.vectors y u) p };
     }
   where
     go : (g q : ℕ) → g ≡ active_group s q → (group_at (interrupted rows s host) (active_group s q)).awake ≡ true
@@ -97,5 +95,5 @@ elsewhere_still rows s x event h f k =
       active_subjects = λ g d. r.active_subjects g ∙ ap (λ (z : Group). z.active) (a.groups g d);
       awake = λ g d e. still (wakes_target rows event.signal g) _ _ (r.awake g) (ap (λ (z : Group). z.awake) (a.groups g d) ∙ e);
       opened = r.opened;
-      lost = record { events = λ y e p. still (marks_event event.signal y e) _ _ (r.events y e) p; vectors = λ y u p. ap (λ (b : Bits256). has256 b u) (r.vectors y) ∙ p };
+      lost = record { events = λ y e p. still (marks_event event.signal y e) _ _ (r.events y e) p; vectors = λ y u p. ap (λ (b : Bits256). has_number b u) (r.vectors y) ∙ p };
     }

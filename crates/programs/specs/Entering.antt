@@ -1,7 +1,7 @@
 -- "Entry", what it does to the subject that is entered: "Its active subject's highest pending event is taken: inject marks the vector
 -- pending for it; reset clears its 256 pending vectors, .. and closes it. If open, its highest pending vector is taken and injected."
 use Rattle.std.specs.Prelude.{ℕ, true, false, cond, List, Option, Some, None}
-use Rattle.bits.specs.Sets.{highest64, highest256}
+use Rattle.bits.specs.Sets.{highest_number}
 use Rattle.meaning.specs.declared.answer.TargetAction.{TargetAction}
 use Rattle.meaning.specs.declared.answer.TargetAction.TheVariants as target
 use Rattle.meaning.specs.Lookups.{target_event}
@@ -26,7 +26,7 @@ event_taken_at rows number x (Some event) = reacted (event_cleared x event) (tar
 
 -- "highest pending event is taken", of the subject of a number
 unfoldable pub event_taken : List ℕ → ℕ → Subject → Taken
-event_taken rows number x = event_taken_at rows number x (highest64 x.events)
+event_taken rows number x = event_taken_at rows number x (highest_number x.events)
 
 -- the highest pending vector, if there is one
 unfoldable pub vector_taken_at : Subject → Option ℕ → Injection
@@ -35,7 +35,7 @@ vector_taken_at x (Some vector) = record { subject = vector_cleared x (record { 
 
 -- "If open, its highest pending vector is taken and injected"
 unfoldable pub vector_taken : Subject → Injection
-vector_taken x = cond x.«open» (vector_taken_at x (highest256 x.vectors)) (record { subject = x; vector = None })
+vector_taken x = cond x.«open» (vector_taken_at x (highest_number x.vectors)) (record { subject = x; vector = None })
 
 -- the subject of a number is entered
 unfoldable pub entering : List ℕ → Programs → ℕ → Entering

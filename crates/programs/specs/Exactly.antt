@@ -1,7 +1,7 @@
 -- What an interrupt, an action and a target event change, exactly: every vector, event, group, active group and IRQ line is named, changed
 -- or not. Sets by their members. `s` are the programs before.
 use Rattle.std.specs.Prelude.{ℕ, ◌≤◌, ◌<◌, Bool, true, false, not, ◌&&◌, ◌||◌, List, ◌⊎◌, ◌≡◌, eqb, Some, None, Option}
-use Rattle.bits.specs.Sets.{has64, has256}
+use Rattle.bits.specs.Sets.{has_number}
 use Rattle.rows.specs.Lookups.{counts_of, partition_of, group_of}
 use Rattle.meaning.specs.declared.answer.HostVector.{HostVector}
 use Rattle.meaning.specs.declared.answer.IrqLine.{IrqLine}
@@ -56,9 +56,9 @@ pub record RoutedExactly (rows : List ℕ) (s : Programs) (host : HostVector) : 
   -- "Others, 253 and 254 included, do nothing"
   pub nowhere : route_of rows host ≡ None → interrupted rows s host ≡ s
   pub vectors : (y u : ℕ)
-      → has256 (subject_at (interrupted rows s host) y).vectors u ≡ (marks_vector (route_of rows host) y u || has256 (subject_at s y).vectors u)
+      → has_number (subject_at (interrupted rows s host) y).vectors u ≡ (marks_vector (route_of rows host) y u || has_number (subject_at s y).vectors u)
   pub awake : (g : ℕ) → (group_at (interrupted rows s host) g).awake ≡ (wakes_routed rows (route_of rows host) g || (group_at s g).awake)
-  pub masks : (l : ℕ) → has64 (interrupted rows s host).masks l ≡ (masks_line (route_of rows host) l || has64 s.masks l)
+  pub masks : (l : ℕ) → has_number (interrupted rows s host).masks l ≡ (masks_line (route_of rows host) l || has_number s.masks l)
   -- nothing else
   pub events : (y : ℕ) → (subject_at (interrupted rows s host) y).events ≡ (subject_at s y).events
   pub opened : (y : ℕ) → (subject_at (interrupted rows s host) y).«open» ≡ (subject_at s y).«open»
@@ -92,13 +92,13 @@ pub record HandedOver (group target : ℕ) (s t : Programs) : Type 0 where
 
 -- "Unmask clears the line": exactly that one
 pub record Unmasked (line : IrqLine) (s t : Programs) : Type 0 where
-  pub masks : (l : ℕ) → has64 t.masks l ≡ (not (eqb l line.0) && has64 s.masks l)
+  pub masks : (l : ℕ) → has_number t.masks l ≡ (not (eqb l line.0) && has_number s.masks l)
   pub groups : GroupsKept s t
   pub active_groups : ActiveGroupsKept s t
 
 -- "has an event or vector pending": some event, or some vector
 abbrev pub Pending : Subject → Type 0
-Pending x = ((e : ℕ) × (has64 x.events e ≡ true)) ⊎ ((u : ℕ) × (has256 x.vectors u ≡ true))
+Pending x = ((e : ℕ) × (has_number x.events e ≡ true)) ⊎ ((u : ℕ) × (has_number x.vectors u ≡ true))
 
 -- "any subject of it has an event or vector pending": y is one
 abbrev pub PendingOf : List ℕ → Programs → ℕ → ℕ → Type 0
@@ -139,7 +139,7 @@ wakes_target rows (Some signal) g = eqb g (group_of rows signal.subject)
 -- a source event of subject x
 pub record SignalledExactly (rows : List ℕ) (s : Programs) (x : ℕ) (event : SourceEvent) : Type 0 where
   pub events : (y f : ℕ)
-      → has64 (subject_at (handled rows s x event) y).events f ≡ (marks_event event.signal y f || has64 (subject_at s y).events f)
+      → has_number (subject_at (handled rows s x event) y).events f ≡ (marks_event event.signal y f || has_number (subject_at s y).events f)
   pub vectors : (y : ℕ) → (subject_at (handled rows s x event) y).vectors ≡ (subject_at s y).vectors
   pub opened : (y : ℕ) → (subject_at (handled rows s x event) y).«open» ≡ (subject_at s y).«open»
   -- beside that, what the action left

@@ -2,7 +2,7 @@
 -- no IRQ line masked"; and, "beside a refused start", all zeros.
 use Rattle.std.specs.Prelude.{ℕ, zero, suc, ◌+◌, Bool, true, cond, List, map, replicate, eqb}
 use Rattle.std.specs.List.{range_with_len}
-use Rattle.bits.specs.Sets.{none64}
+use Rattle.bits.specs.Sets.{no_numbers}
 use Rattle.rows.specs.Lookups.{counts_of, partition_of, group_of}
 use Rattle.programs.specs.declared.group.Group.{Group}
 use Rattle.programs.specs.declared.whole.Programs.{Programs}
@@ -38,7 +38,7 @@ fresh_programs rows =
       actives = fresh_actives rows;
       groups = fresh_groups rows;
       subjects = replicate 16 fresh_subject;
-      masks = none64;
+      masks = no_numbers;
     }
 
 unfoldable pub zero_programs : Programs
@@ -47,5 +47,5 @@ zero_programs =
       actives = replicate 8 0;
       groups = replicate 16 no_group;
       subjects = replicate 16 fresh_subject;
-      masks = none64;
+      masks = no_numbers;
     }

@@ -1,6 +1,6 @@
 -- All programs: their parts read and stored. Each part goes by its number alone; what lies past the end reads as asleep, nothing pending.
 use Rattle.std.specs.Prelude.{ℕ, false, get_or, set}
-use Rattle.bits.specs.declared.one_word.Bits64.{Bits64}
+use Rattle.bits.specs.Sets.{Bits64}
 use Rattle.programs.specs.declared.group.Group.{Group}
 use Rattle.programs.specs.declared.subject.Subject.{Subject}
 use Rattle.programs.specs.declared.whole.Programs.{Programs}

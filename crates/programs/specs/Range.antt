@@ -1,6 +1,7 @@
 -- 80, what it says of groups, subjects and IRQ lines: ".. active group of its partition, active subject of its group, masked line
 -- (0-23) .. out of range".
 use Rattle.std.specs.Prelude.{ℕ, ◌^◌, Bool, ◌&&◌, List, ltb, eqb}
+use Rattle.bits.specs.Sets.{word64}
 use Rattle.rows.specs.Lookups.{counts_of, partition_of, group_of}
 use Rattle.rules.specs.Rules.{all_below}
 use Rattle.programs.specs.declared.whole.Programs.{Programs}
@@ -18,7 +19,7 @@ subject_in_range rows s group =
 
 -- "masked line (0-23)": a bit for each line, line 0 the lowest
 unfoldable pub masks_in_range : Programs → Bool
-masks_in_range s = ltb s.masks.word (2 ^ 24)
+masks_in_range s = ltb (word64 s.masks) (2 ^ 24)
 
 unfoldable pub programs_in_range : List ℕ → Programs → Bool
 programs_in_range rows s =

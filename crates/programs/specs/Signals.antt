@@ -1,7 +1,7 @@
 -- "Interrupt" up to its entry, and the last sentence of "Source event": what becomes pending, for whom, and who wakes.
 use Rattle.std.specs.Prelude.{ℕ, List, Option, Some, None}
 use Rattle.meaning.specs.declared.answer.IrqLine.{IrqLine}
-use Rattle.bits.specs.Sets.{mark64}
+use Rattle.bits.specs.Sets.{mark_number}
 use Rattle.rows.specs.Lookups.{group_of}
 use Rattle.meaning.specs.declared.answer.HostVector.{HostVector}
 use Rattle.meaning.specs.declared.answer.SubjectVector.{SubjectVector}
@@ -23,7 +23,7 @@ vector_pending s subject vector = with_subject s subject (vector_marked (subject
 -- "its IRQ line, if any, is masked"
 unfoldable pub masked : Programs → Option IrqLine → Programs
 masked s None = s
-masked s (Some line) = with_masks s (mark64 s.masks line.0)
+masked s (Some line) = with_masks s (mark_number s.masks line.0)
 
 -- "A routed vector becomes pending .., wakes its group, and its IRQ line, if any, is masked. Others .. do nothing"
 unfoldable pub routed : List ℕ → Programs → Option Route → Programs

@@ -1,7 +1,7 @@
 -- Soundness of the range that refusal 80 asks for: the fresh programs are in it, and whatever a call does to them keeps them there. So
 -- no state that a history of calls gives is refused for its groups, subjects or masked lines. Also what the fresh programs are.
 use Rattle.std.specs.Prelude.{ℕ, ◌^◌, ◌<◌, Bool, true, false, List, ◌↔◌, ◌≡◌, eqb, Some}
-use Rattle.bits.specs.Sets.{has64}
+use Rattle.bits.specs.Sets.{has_number, word64}
 use Rattle.rows.specs.Lookups.{counts_of, partition_of, group_of}
 use Rattle.meaning.specs.declared.answer.HostVector.{HostVector}
 use Rattle.meaning.specs.Lookups.{source_event}
@@ -37,7 +37,7 @@ pub record InRange (rows : List ℕ) (s : Programs) : Type 0 where
   -- "active subject of its group"
   pub subject : (group : ℕ) → group < (counts_of rows).groups → SubjectOf rows group (active_subject s group)
   -- "masked line (0-23)"
-  pub masks : s.masks.word < 2 ^ 24
+  pub masks : word64 s.masks < 2 ^ 24
 
 -- the lowest of the numbers below a count that pass a test
 pub record Lowest (test : ℕ → Bool) (count found : ℕ) : Type 0 where
@@ -55,7 +55,7 @@ pub record Fresh (rows : List ℕ) (s : Programs) : Type 0 where
       → Lowest (λ x. eqb (group_of rows x) group) (counts_of rows).subjects (active_subject s group)
   pub pending : (subject : ℕ) → Pending (subject_at s subject) → ⊥
   pub closed : (subject : ℕ) → (subject_at s subject).«open» ≡ false
-  pub unmasked : (line : ℕ) → has64 s.masks line ≡ false
+  pub unmasked : (line : ℕ) → has_number s.masks line ≡ false
 
 pub record Sound : Type 0 where
   pub ranges : (rows : List ℕ) (s : Programs) → (programs_in_range rows s ≡ true) ↔ InRange rows s

@@ -1,6 +1,6 @@
 -- "Source event": what one does to the programs. That reboot, power off and panic stop is the scheduler's.
 use Rattle.std.specs.Prelude.{ℕ, cond, List, Option, Some, None}
-use Rattle.bits.specs.Sets.{clear64}
+use Rattle.bits.specs.Sets.{clear_number}
 use Rattle.rows.specs.Lookups.{partition_of, group_of}
 use Rattle.meaning.specs.declared.answer.IrqLine.{IrqLine}
 use Rattle.meaning.specs.declared.answer.Action.{Action}
@@ -32,7 +32,7 @@ handed_over s group subject = with_group s group (handed_to (group_at s group) s
 
 -- "Unmask clears the line"
 unfoldable pub unmasked : Programs → IrqLine → Programs
-unmasked s line = with_masks s (clear64 s.masks line.0)
+unmasked s line = with_masks s (clear_number s.masks line.0)
 
 -- the action of an event of a subject
 unfoldable pub acted : List ℕ → Programs → ℕ → Action → Programs

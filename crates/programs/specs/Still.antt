@@ -1,7 +1,7 @@
 -- What a call leaves alone. "Letting an interrupt switch to the subject it is for, away from the active subject of an awake active group"
 -- is wrong; so is a source event that moves another partition or group, or a step that drops what is pending.
 use Rattle.std.specs.Prelude.{ℕ, true, List, ◌≡◌, Some}
-use Rattle.bits.specs.Sets.{has64, has256}
+use Rattle.bits.specs.Sets.{has_number}
 use Rattle.rows.specs.Lookups.{partition_of, group_of}
 use Rattle.meaning.specs.declared.answer.HostVector.{HostVector}
 use Rattle.meaning.specs.declared.answer.SourceEvent.{SourceEvent}
@@ -14,8 +14,8 @@ use Rattle.programs.specs.Exactly.{ActiveSubjectsKept, ActiveGroupsKept}
 
 -- nothing pending is dropped
 pub record NothingLost (s t : Programs) : Type 0 where
-  pub events : (y e : ℕ) → has64 (subject_at s y).events e ≡ true → has64 (subject_at t y).events e ≡ true
-  pub vectors : (y u : ℕ) → has256 (subject_at s y).vectors u ≡ true → has256 (subject_at t y).vectors u ≡ true
+  pub events : (y e : ℕ) → has_number (subject_at s y).events e ≡ true → has_number (subject_at t y).events e ≡ true
+  pub vectors : (y u : ℕ) → has_number (subject_at s y).vectors u ≡ true → has_number (subject_at t y).vectors u ≡ true
 
 -- an interrupt switches nobody: entry goes where it would have gone without it, to the active subject of the awake active group
 pub record NoSwitch (rows : List ℕ) (s : Programs) (host : HostVector) : Type 0 where

@@ -44,6 +44,6 @@ impl Programs {
         let counts = counts_of(rows);
         self.groups_in_range_below(rows, counts.partitions)
             && self.subjects_in_range_below(rows, counts.groups)
-            && self.masks.word < MASKS
+            && self.masks.words[0] < MASKS
     }
 }

@@ -5,7 +5,7 @@ use mathlib.Core.Bool.{true}
 use mathlib.Core.List.{List}
 use mathlib.Core.Logic.{◌⊎◌, inl, inr}
 use mathlib.Core.Path.{◌≡◌, refl, ap, ◌∙◌}
-use Rattle.bits.specs.Sets.{has64, has256}
+use Rattle.bits.specs.Sets.{has_number}
 use Rattle.rows.specs.Lookups.{cpu_of, partition_of}
 use Rattle.meaning.specs.declared.answer.HostVector.{HostVector}
 use Rattle.meaning.specs.declared.answer.SourceEvent.{SourceEvent}
@@ -28,8 +28,8 @@ pub record Untouched (rows : List ℕ) (cpu : ℕ) (s t : Programs) : Type 0 whe
   pub active_groups : (q : ℕ) → (cpu_of rows q ≡ cpu → ⊥) → active_group t q ≡ active_group s q
   pub active_subjects : (g : ℕ) → (cpu_of rows (partition_of rows g) ≡ cpu → ⊥) → active_subject t g ≡ active_subject s g
   pub opened : (x : ℕ) → (cpu_of_subject rows x ≡ cpu → ⊥) → (subject_at t x).«open» ≡ (subject_at s x).«open»
-  pub events : (x e : ℕ) → (cpu_of_subject rows x ≡ cpu → ⊥) → has64 (subject_at s x).events e ≡ true → has64 (subject_at t x).events e ≡ true
-  pub vectors : (x v : ℕ) → (cpu_of_subject rows x ≡ cpu → ⊥) → has256 (subject_at s x).vectors v ≡ true → has256 (subject_at t x).vectors v ≡ true
+  pub events : (x e : ℕ) → (cpu_of_subject rows x ≡ cpu → ⊥) → has_number (subject_at s x).events e ≡ true → has_number (subject_at t x).events e ≡ true
+  pub vectors : (x v : ℕ) → (cpu_of_subject rows x ≡ cpu → ⊥) → has_number (subject_at s x).vectors v ≡ true → has_number (subject_at t x).vectors v ≡ true
 
 -- a CPU has who it had, or nobody
 abbrev pub Stays : State → State → ℕ → Type 0
@@ -84,8 +84,8 @@ module _ (rows : List ℕ) (cpu : ℕ) (s : Programs) where
         active_groups = λ q d. active_of_subject s x z q;
         active_subjects = λ g d. ap (λ (a : Group). a.active) (group_of_subject s x z g);
         opened = λ y d. ap (λ (a : Subject). a.«open») (subject_other s x z y (other y d));
-        events = λ y e d p. ap (λ (a : Subject). has64 a.events e) (subject_other s x z y (other y d)) ∙ p;
-        vectors = λ y v d p. ap (λ (a : Subject). has256 a.vectors v) (subject_other s x z y (other y d)) ∙ p;
+        events = λ y e d p. ap (λ (a : Subject). has_number a.events e) (subject_other s x z y (other y d)) ∙ p;
+        vectors = λ y v d p. ap (λ (a : Subject). has_number a.vectors v) (subject_other s x z y (other y d)) ∙ p;
       }
     where
       other : (y : ℕ) → (cpu_of_subject rows y ≡ cpu → ⊥) → y ≡ x → ⊥
@@ -98,8 +98,8 @@ module _ (rows : List ℕ) (cpu : ℕ) (s : Programs) where
         active_groups = λ q d. active_other s partition group q (λ e. d (ap (cpu_of rows) e ∙ here));
         active_subjects = λ g d. ap (λ (a : Group). a.active) (group_of_active s partition group g);
         opened = λ y d. ap (λ (a : Subject). a.«open») (subject_of_active s partition group y);
-        events = λ y e d p. ap (λ (a : Subject). has64 a.events e) (subject_of_active s partition group y) ∙ p;
-        vectors = λ y v d p. ap (λ (a : Subject). has256 a.vectors v) (subject_of_active s partition group y) ∙ p;
+        events = λ y e d p. ap (λ (a : Subject). has_number a.events e) (subject_of_active s partition group y) ∙ p;
+        vectors = λ y v d p. ap (λ (a : Subject). has_number a.vectors v) (subject_of_active s partition group y) ∙ p;
       }
 
 -- ---- a source event of a subject of that CPU, and an interrupt

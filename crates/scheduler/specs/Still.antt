@@ -3,7 +3,7 @@
 -- subject of a partition whose active group is awake; and no wake is lost.
 use Rattle.std.specs.Prelude.{ℕ, ◌<◌, Bool, true, false, List, ◌≡◌, eqb, Option, Some, None}
 use Rattle.calls.specs.declared.call.Call.{Call}
-use Rattle.bits.specs.Sets.{has64, has256}
+use Rattle.bits.specs.Sets.{has_number}
 use Rattle.rows.specs.Lookups.{counts_of, cpu_of, partition_of}
 use Rattle.accepted.specs.Facts.{Facts, cpu_of_subject}
 use Rattle.clock.specs.Time.{waiting, current_partition}
@@ -39,9 +39,9 @@ pub record ElsewhereStill (rows : List ℕ) (h : Option Call) (s t : State) : Ty
       → (subject_at t.programs x).«open» ≡ (subject_at s.programs x).«open»
   -- no mark is taken
   pub events : (x e : ℕ) → x < (counts_of rows).subjects → made_on (cpu_of_subject rows x) h ≡ false
-      → has64 (subject_at s.programs x).events e ≡ true → has64 (subject_at t.programs x).events e ≡ true
+      → has_number (subject_at s.programs x).events e ≡ true → has_number (subject_at t.programs x).events e ≡ true
   pub vectors : (x v : ℕ) → x < (counts_of rows).subjects → made_on (cpu_of_subject rows x) h ≡ false
-      → has256 (subject_at s.programs x).vectors v ≡ true → has256 (subject_at t.programs x).vectors v ≡ true
+      → has_number (subject_at s.programs x).vectors v ≡ true → has_number (subject_at t.programs x).vectors v ≡ true
 
 -- an interrupt on a CPU; s before, t after
 pub record NoSwitch (rows : List ℕ) (cpu : ℕ) (s t : State) : Type 0 where
