@@ -102,8 +102,8 @@ going_start text h =
     record { earlier = []; tied = holds_none; within = omega arith; counted = omega arith; left = rw (le-ltb longest_text (length text) h) }
 
 module _ (text : List ℕ) (t : Table) (at : ℕ) (g : Going text t at) where
-  number : length g.earlier + 1 ≡ t.done.lines + 1
-  number = ap (λ (n : ℕ). n + 1) (sym g.tied.lines)
+  line_number : length g.earlier + 1 ≡ t.done.lines + 1
+  line_number = ap (λ (n : ℕ). n + 1) (sym g.tied.lines)
 
   pub going_fits : (r : Record) → verdict_by t r ≡ Ok tt → place_of t.done.next r ≤ row_count
   going_fits = place_fits t g.earlier g.tied
@@ -119,8 +119,8 @@ module _ (text : List ℕ) (t : Table) (at : ℕ) (g : Going text t at) where
     -- what comes of it where it is no record
     ends : (other : Result (Record × ℕ) NoRecord) → line ≡ other → ((x : Record × ℕ) → other ≡ Ok x → ⊥) → no_record other (t.done.lines + 1) ≡ read_of text
     ends (Ok x) q d = absurd (d x refl)
-    ends (Err IllFormedLine) q d = sym (g.left ∙ judge_ill_formed g.earlier (drop at text) some_left (line_is ∙ q) ∙ ap (no_record (Err IllFormedLine)) number)
-    ends (Err WrongKindLine) q d = sym (g.left ∙ judge_wrong_kind g.earlier (drop at text) some_left (line_is ∙ q) ∙ ap (no_record (Err WrongKindLine)) number)
+    ends (Err IllFormedLine) q d = sym (g.left ∙ judge_ill_formed g.earlier (drop at text) some_left (line_is ∙ q) ∙ ap (no_record (Err IllFormedLine)) line_number)
+    ends (Err WrongKindLine) q d = sym (g.left ∙ judge_wrong_kind g.earlier (drop at text) some_left (line_is ∙ q) ∙ ap (no_record (Err WrongKindLine)) line_number)
 
     pub going_no_record : ((x : Record × ℕ) → line ≡ Ok x → ⊥) → no_record line (t.done.lines + 1) ≡ read_of text
     going_no_record = ends line refl
@@ -172,4 +172,4 @@ module _ (text : List ℕ) (t : Table) (at : ℕ) (g : Going text t at) where
     end_missing h =
         let q : last_kind g.earlier ≡ 10 → ⊥ = λ z. h (g.tied.kind ∙ z) in
         let e : read_of text ≡ refusal (WrongKind (length g.earlier + 1)) = going_end ∙ rw (ne_eqb (last_kind g.earlier) 10 q) in
-        ap (λ (n : ℕ). refusal (WrongKind n)) (sym number) ∙ sym e
+        ap (λ (n : ℕ). refusal (WrongKind n)) (sym line_number) ∙ sym e
