@@ -1,4 +1,4 @@
--- Laws of `all_below` and `any_below`: where a loop begins, its step, and its end; tests that are equal; `all` and `any` over a range.
+-- Laws of `all_below` and `any_below`: one more number; one that fails or passes; tests that are equal; `all` and `any` over a range.
 use Prim.Native.Nat.{ℕ, zero, suc, ◌+◌, ◌<◌}
 use mathlib.Core.Bool.{Bool, true, false, ◌&&◌, ◌||◌}
 use mathlib.Core.Path.{◌≡◌, refl, ap, ap₂, sym, ◌∙◌}
@@ -41,19 +41,7 @@ below_stop (suc n) f i l e =
     go true p k = let q : f n ≡ false = ap f (sym (eqb-true i n p)) ∙ e in rw q (and-false (all_below n f))
     go false p k = let h = eqb-false i n p in rw (k (omega arith))
 
--- all pass
-pub below_end : (n : ℕ) (f : ℕ → Bool) (i : ℕ) → i ≡ n → all_below i f ≡ true → true ≡ all_below n f
-below_end n f i e a = rw e at (sym a)
-
 -- ---- any
-
-pub any_none : (f : ℕ → Bool) → any_below 0 f ≡ false
-unfolding any_below
-any_none f = refl
-
-pub any_more : (f : ℕ → Bool) (i : ℕ) → any_below i f ≡ false → f i ≡ false → any_below (i + 1) f ≡ false
-unfolding any_below
-any_more f i a e = rw (add-one i, a, e)
 
 -- one passes
 pub any_stop : (n : ℕ) (f : ℕ → Bool) (i : ℕ) → i < n → f i ≡ true → any_below n f ≡ true
@@ -65,10 +53,6 @@ any_stop (suc n) f i l e =
     go : (t : Bool) → eqb i n ≡ t → (i < n → any_below n f ≡ true) → any_below n f || f n ≡ true
     go true p k = let q : f n ≡ true = ap f (sym (eqb-true i n p)) ∙ e in rw q (or-true (any_below n f))
     go false p k = let h = eqb-false i n p in rw (k (omega arith))
-
--- all fail
-pub any_end : (n : ℕ) (f : ℕ → Bool) (i : ℕ) → i ≡ n → any_below i f ≡ false → false ≡ any_below n f
-any_end n f i e a = rw e at (sym a)
 
 -- ---- tests that are equal below the bound
 
