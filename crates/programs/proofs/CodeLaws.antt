@@ -1,10 +1,9 @@
 -- Laws in the code's form: what `find` over the numbers below a bound answers, and what `from_fn` lays, in the definitions'
 -- words. Each goes by induction on how many numbers are left.
 use Prim.Native.Nat.{ℕ, zero, suc, ◌+◌, ◌-◌, ◌<◌}
-use mathlib.Core.Bool.{Bool, true, false, cond, ◌||◌}
+use mathlib.Core.Bool.{Bool, true, false, cond}
 use mathlib.Core.List.{List, ◌∷◌, map}
 use mathlib.Core.Path.{◌≡◌, refl, sym, ap, ◌∙◌}
-use native.Mathlib.Nat.{add-zero, zero-add}
 use native.Mathlib.Numerals.{add-one, sub-one}
 use native.Mathlib.Omega.{arith}
 use lib.Dec.{eqb}
@@ -13,21 +12,19 @@ use lib.ListN.{length, drop}
 use denote.Param.Members.{Mut}
 use denote.Ref.{Bor}
 use Rattle.std.proofs.Common.{Option, Some, None, drop-cons}
-use Rattle.std.proofs.Math.Bool.{or-false, or_assoc}
 use Rattle.std.proofs.iter.Yields.{nat_range_steps}
 use Rattle.std.proofs.lemmas.Iterator.{YieldsList-from_range}
 use Rattle.std.proofs.lemmas.Iterator.Adapters.{option_map_id}
-use Rattle.std.proofs.lemmas.Iterator.Search.{any_from_yields_List, find_from_yields_List}
+use Rattle.std.proofs.lemmas.Iterator.Search.{find_from_yields_List}
 use Rattle.std.proofs.lemmas.List.{drop_all}
 use Rattle.std.specs.declared.ops.Range.{Range}
 use Rattle.std.specs.Array.{IsFromFnResult, IsFromFnResultFrom}
 use Rattle.std.specs.Bool.{⊤}
 use Rattle.std.specs.Fn.{Called, CalledAt}
 use Rattle.std.specs.Iterator.{YieldsThen}
-use Rattle.std.specs.List.{FoldsTo, list_any, find, range_with_len}
+use Rattle.std.specs.List.{FoldsTo, find, range_with_len}
 use Rattle.std.specs.Option.{MatchOption, unwrap_or}
 use Rattle.rows.specs.Lookups.{counts_of}
-use Rattle.rules.specs.Rules.{any_below}
 use Rattle.programs.specs.declared.whole.Programs.{Programs}
 use Rattle.programs.specs.Fresh.{lowest_from}
 use Rattle.programs.specs.Round.{after, may_run, next_awake}

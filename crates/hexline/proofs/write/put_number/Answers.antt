@@ -1,8 +1,7 @@
 -- `put_number` meets its contract: two bytes laid one after the other, or none.
 use native.Mathlib.Omega.{arith}
-use mathlib.Core.List.{List}
-use mathlib.Core.Path.{ap, ◌∙◌, sym}
-use Prim.Native.Nat.{ℕ, ◌+◌, ◌≤◌}
+use mathlib.Core.Path.{◌∙◌, sym}
+use Prim.Native.Nat.{◌+◌, ◌≤◌}
 use borrow.Author.Tests.{leb-true}
 use lib.ListN.{length, get_or}
 use Rattle.hexline.specs.Writes.{pair_of, pairs_of, number_text}
