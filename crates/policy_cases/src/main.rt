@@ -15,57 +15,42 @@
 // is seen by its output.
 #![tactic(auto)]
 
+use cases::{Cases, without_last};
 use std::io;
 
 mod buffer; // a buffer to write into, and what of it was changed
-mod format; // where a case begins and ends
-mod input; // the input, read as far as there is room
-mod print; // what is printed
 mod reading; // a text read and written back
 mod refused; // writings that are refused
 
-// More than there will be: a loop that is proved has to end, and nothing says that the input does.
-const MOST_CASES: u32 = 1000000;
+struct Texts;
 
-// One case, which the input begins with; how many bytes it has.
-fn run(rt: &impl Print, input: &[u8]) -> io::Result<usize> {
-    let end = format::case_end(input);
-    let case = &input[..end];
-    let head = format::line_end(case);
-    let first = &case[..head];
-    let named = format::name_start(first);
-    let name = &first[named..];
-    let start = format::text_start(case, head);
-    let text = &case[start..];
-    print::name(rt, name)?;
-    match format::what(first) {
-        b'-' => reading::open(rt, text)?,
-        b'=' => refused::changed_row(rt, name, text)?,
-        b'*' => refused::each_row(rt, text)?,
-        b'9' => refused::each_length(rt, text)?,
-        _ => reading::whole(rt, text)?,
+// The name in a case's first line: behind `# `, or behind `#-` and a blank.
+fn name_in(first: &[u8]) -> &[u8] {
+    match first {
+        [_, b' ', name @ ..] | [_, _, _, name @ ..] => name,
+        _ => &[],
     }
-    print::words(rt, b"\n")?;
-    Ok(end)
 }
 
-// All cases. The buffer holds the input from the next case on, as far as it goes.
-fn run_all(rt: &(impl Input + Print), buf: &mut [u8]) -> io::Result<()> {
-    let mut have: usize = 0;
-    let mut turns: u32 = 0;
-    while turns < MOST_CASES {
-        let full = input::refill(rt, buf, have)?;
-        if full == 0 {
-            return Ok(());
+impl Cases for Texts {
+    const MARK: &'static [u8] = b"#";
+
+    fn run(rt: &impl Print, line: &[u8], text: &[u8]) -> io::Result<()> {
+        let first = line.strip_suffix(b"\n").unwrap_or(line);
+        let name = name_in(first);
+        rt.write_all(name)?;
+        rt.write_all(b": ")?;
+        match first.get(1) {
+            Some(b'-') => reading::whole(rt, without_last(text))?,
+            Some(b'=') => refused::changed_row(rt, name, text)?,
+            Some(b'*') => refused::each_row(rt, text)?,
+            Some(b'9') => refused::each_length(rt, text)?,
+            _ => reading::whole(rt, text)?,
         }
-        let used = run(rt, &buf[..full])?;
-        have = input::shift(buf, used, full);
-        turns += 1;
+        rt.write_all(b"\n")
     }
-    Ok(())
 }
 
 fn main(rt: HostRuntime) -> io::Result<()> {
-    let mut buf = input::room();
-    run_all(&rt, &mut buf)
+    Texts::run_all(&rt)
 }

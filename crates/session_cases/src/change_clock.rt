@@ -1,72 +1,43 @@
 // Changes of the clock: the fields 01 to 06.
 use crate::change::Change;
 use clock::{Clock, CpuClock};
+use rows::store;
 
-const MAJOR: u8 = 1;
-
-const NEXT: u8 = 2;
-
-const MINOR: u8 = 3;
-
-const LEFT: u8 = 4;
-
-const NOW: u8 = 5;
-
-const CPUS: u8 = 4;
-
-const PARTITIONS: u8 = 8;
-
-fn majors_changed(clock: Clock, change: Change) -> Clock {
-    let mut after = clock;
-    let major = change.byte();
-    if change.field == MAJOR {
-        after.major = major;
-        return after;
-    }
-    after.next = major;
-    after
-}
-
-fn cpu_changed(clock: Clock, change: Change) -> Clock {
-    let cpu = change.index;
-    if CPUS <= cpu {
-        return clock;
-    }
-    let mut c = clock.cpu_at(cpu);
-    if change.field == MINOR {
-        let minor = change.byte();
-        c.minor = minor;
-    } else {
-        c.left = change.value;
-    }
-    let at = cpu as usize;
-    let mut after = clock;
-    after.cpus[at] = c;
-    after
-}
-
-fn count_changed(clock: Clock, change: Change) -> Clock {
-    let partition = change.index;
-    if PARTITIONS <= partition {
-        return clock;
-    }
-    let at = partition as usize;
-    let mut after = clock;
-    if change.field == NOW {
-        after.now[at] = change.value;
-        return after;
-    }
-    after.last[at] = change.value;
-    after
+fn cpu_changed(clock: Clock, cpu: u8, after: CpuClock) -> Clock {
+    let mut cpus = clock.cpus;
+    store(&mut cpus, cpu as usize, after);
+    Clock { cpus, ..clock }
 }
 
 pub(crate) fn clock_changed(clock: Clock, change: Change) -> Clock {
-    let field = change.field;
-    if field <= NEXT {
-        return majors_changed(clock, change);
+    let at = change.index as usize;
+    let cpu = clock.cpu_at(change.index);
+    match change.field {
+        0x01 => Clock {
+            major: change.byte(),
+            ..clock
+        },
+        0x02 => Clock {
+            next: change.byte(),
+            ..clock
+        },
+        0x03 => {
+            let minor = change.byte();
+            cpu_changed(clock, change.index, CpuClock { minor, ..cpu })
+        }
+        0x04 => {
+            let left = change.value;
+            cpu_changed(clock, change.index, CpuClock { left, ..cpu })
+        }
+        0x05 => {
+            let mut now = clock.now;
+            store(&mut now, at, change.value);
+            Clock { now, ..clock }
+        }
+        _ => {
+            let mut last = clock.last;
+            store(&mut last, at, change.value);
+            Clock { last, ..clock }
+        }
     }
-    if field <= LEFT {
-        return cpu_changed(clock, change);
-    }
-    count_changed(clock, change)
 }

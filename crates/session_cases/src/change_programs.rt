@@ -3,64 +3,19 @@ use crate::change::Change;
 use meaning::SubjectVector;
 use programs::Programs;
 
-const ACTIVE_GROUP: u8 = 7;
-
-const ACTIVE_SUBJECT: u8 = 8;
-
-const AWAKE: u8 = 9;
-
-const OPEN: u8 = 10;
-
-const EVENT: u8 = 11;
-
-const VECTOR: u8 = 12;
-
-fn group_changed(programs: Programs, change: Change) -> Programs {
-    let group = change.index;
-    let kept = programs.group_at(group);
-    if change.field == ACTIVE_SUBJECT {
-        let handed = kept.hand_over(change.byte());
-        return programs.with_group(group, handed);
-    }
-    if change.is_yes() {
-        let awake = kept.wake();
-        return programs.with_group(group, awake);
-    }
-    let asleep = kept.sleep();
-    programs.with_group(group, asleep)
-}
-
-fn subject_changed(programs: Programs, change: Change) -> Programs {
-    let subject = change.index;
-    let kept = programs.subject_at(subject);
-    if change.field == OPEN {
-        let stored = kept.set_open(change.is_yes());
-        return programs.with_subject(subject, stored);
-    }
-    if change.field == EVENT {
-        let marked = kept.mark_event(change.byte());
-        return programs.with_subject(subject, marked);
-    }
-    let marked = kept.mark_vector(SubjectVector(change.byte()));
-    programs.with_subject(subject, marked)
-}
-
-fn masks_changed(programs: Programs, change: Change) -> Programs {
-    let line = change.index;
-    if change.is_yes() {
-        let more = programs.masks.mark(line);
-        return programs.with_masks(more);
-    }
-    let fewer = programs.masks.clear(line);
-    programs.with_masks(fewer)
-}
-
 pub(crate) fn programs_changed(programs: Programs, change: Change) -> Programs {
-    let field = change.field;
-    match field {
-        ACTIVE_GROUP => programs.with_active(change.index, change.byte()),
-        ACTIVE_SUBJECT | AWAKE => group_changed(programs, change),
-        OPEN | EVENT | VECTOR => subject_changed(programs, change),
-        _ => masks_changed(programs, change),
+    let (index, byte, yes) = (change.index, change.byte(), change.is_yes());
+    let group = programs.group_at(index);
+    let subject = programs.subject_at(index);
+    match change.field {
+        0x07 => programs.with_active(index, byte),
+        0x08 => programs.with_group(index, group.hand_over(byte)),
+        0x09 if yes => programs.with_group(index, group.wake()),
+        0x09 => programs.with_group(index, group.sleep()),
+        0x0A => programs.with_subject(index, subject.set_open(yes)),
+        0x0B => programs.with_subject(index, subject.mark_event(byte)),
+        0x0C => programs.with_subject(index, subject.mark_vector(SubjectVector(byte))),
+        _ if yes => programs.with_masks(programs.masks.mark(index)),
+        _ => programs.with_masks(programs.masks.clear(index)),
     }
 }

@@ -10,59 +10,37 @@
 // is seen by its output.
 #![tactic(auto)]
 
+use cases::{Cases, split_at_line, split_line, without_last};
 use std::io;
 
 mod bench; // what calls are played on
 mod change; // changes between calls
 mod change_clock; // of the clock
 mod change_programs; // of the programs
-mod format; // where a case and its parts begin and end
-mod input; // the input, read as far as there is room
-mod print; // what is printed
 mod session; // one case
 
-// More than there will be: a loop that is proved has to end, and nothing says that the input does.
-const MOST_CASES: u32 = 1000000;
+// What the line before the calls begins with.
+const CALLS: &[u8] = b"#c";
 
-// One case, of its parts: its text behind the first line.
-fn run_text(rt: &impl Print, text: &[u8]) -> io::Result<()> {
-    let cut = format::policy_end(text);
-    let policy = &text[..cut];
-    let rest = &text[cut..];
-    let head = format::line_end(rest);
-    let line = &rest[..head];
-    let calls = &rest[head..];
-    let end = format::calls_end(line, calls);
-    session::run(rt, policy, &calls[..end])
-}
+// At this place of it a `-` may stand.
+const OPEN_AT: usize = 6;
 
-// The case that the input begins with; how many bytes it has.
-fn run(rt: &impl Print, input: &[u8]) -> io::Result<usize> {
-    let end = format::case_end(input);
-    let case = &input[..end];
-    let head = format::line_end(case);
-    print::words(rt, &case[..head])?;
-    run_text(rt, &case[head..])?;
-    Ok(end)
-}
+struct Sessions;
 
-// All cases. The buffer holds the input from the next case on, as far as it goes.
-fn run_all(rt: &(impl Input + Print), buf: &mut [u8]) -> io::Result<()> {
-    let mut have: usize = 0;
-    let mut turns: u32 = 0;
-    while turns < MOST_CASES {
-        let full = input::refill(rt, buf, have)?;
-        if full == 0 {
-            return Ok(());
+impl Cases for Sessions {
+    const MARK: &'static [u8] = b"# ";
+
+    fn run(rt: &impl Print, first: &[u8], text: &[u8]) -> io::Result<()> {
+        rt.write_all(first)?;
+        let (policy, rest) = split_at_line(text, 0, CALLS);
+        let (line, calls) = split_line(rest);
+        match line.get(OPEN_AT) {
+            Some(b'-') => session::run(rt, policy, without_last(calls)),
+            _ => session::run(rt, policy, calls),
         }
-        let used = run(rt, &buf[..full])?;
-        have = input::shift(buf, used, full);
-        turns += 1;
     }
-    Ok(())
 }
 
 fn main(rt: HostRuntime) -> io::Result<()> {
-    let mut buf = input::room();
-    run_all(&rt, &mut buf)
+    Sessions::run_all(&rt)
 }
