@@ -1,4 +1,7 @@
 // A refusal, printed.
+ghost use Rattle.std.specs.Prelude.{Some};
+ghost use Rattle.cases.specs.Refusals.{refusal_text};
+
 use rules::Refusal;
 use std::fmt;
 
@@ -7,9 +10,11 @@ use std::fmt;
 pub struct Refused(pub Refusal);
 
 impl fmt::Display for Refused {
+    ghost output = { λ r. Some (refusal_text r.0) };
+
     fn fmt<W: fmt::Write>(&self, f: &mut fmt::Formatter<W>) -> fmt::Result {
         let number = self.0.number();
-        let line = self.0.line();
-        write!(f, "FF{number:02X}{line:04X}")
+        let [high, low] = self.0.line().to_be_bytes();
+        write!(f, "FF{number:02X}{high:02X}{low:02X}")
     }
 }
