@@ -1,5 +1,6 @@
 // The input, read as far as there is room, and its cases run.
-ghost use Rattle.std.specs.Prelude.{◌≤◌, length, IfOk};
+ghost use Rattle.std.specs.Prelude.{ℕ, ◌≡◌, ◌+◌, ◌<◌, ◌≤◌, length, get_or, take, IfOk};
+ghost use Rattle.std.specs.Io.KnownBytes.{Consumes, IsAtEnd};
 
 use crate::part::{split_at_line, split_line};
 use std::io::{self, Read};
@@ -10,9 +11,11 @@ const ROOM: usize = 131072;
 // More than there will be: a loop that is proved has to end, and nothing says that the input does.
 const MOST_CASES: u32 = 1000000;
 
-// Reads as far as there is room; how many bytes.
+// Reads until the room is full or the input ends; how many bytes.
 fn fill<R: Read>(reader: &mut R, room: &mut [u8]) -> io::Result<usize>
-    ensures { IfOk result (λ n. n ≤ length room.new) }
+    ensures within { IfOk result (λ n. n ≤ length room.new) }
+    ensures bytes { IfOk result (λ n. Consumes (R.remaining reader.old) (R.remaining reader.new) (take n room.new)) }
+    ensures end { IfOk result (λ n. n < length room.new → IsAtEnd (R.remaining reader.new)) }
 {
     let mut at = 0;
     while at < room.len() {
@@ -25,8 +28,10 @@ fn fill<R: Read>(reader: &mut R, room: &mut [u8]) -> io::Result<usize>
     Ok(at)
 }
 
-// Drops the first bytes, so that the others stand from the front on.
-fn shift(bytes: &mut [u8], used: usize) {
+// Drops the first bytes: the others stand from the front on.
+fn shift(bytes: &mut [u8], used: usize)
+    ensures { (k : ℕ) → k + used < length bytes.old → get_or bytes.new k 0 ≡ get_or bytes.old (k + used) 0 }
+{
     for at in used..bytes.len() {
         bytes[at - used] = bytes[at];
     }
