@@ -19,11 +19,13 @@ range_length = length-range_with_len
 -- nothing is found: the first place is past the list
 not_found : (test : ℕ → Bool) (items : List ℕ) → position test items ≡ None → length items ≤ position_or_len test items
 not_found test items =
-    by_cond (λ (found : Option ℕ). found ≡ None → length items ≤ position_or_len test items) (ltb (position_or_len test items) (length items)) _ _
+    let place = position_or_len test items in
+    by_cond (λ (found : Option ℕ). found ≡ None → length items ≤ place) (ltb place (length items)) _ _
     (λ t e. absurd (cc)) (λ t e. omega (arith, ltb-false _ _ t))
 
 pub no_line : (text mark : List ℕ) (from : ℕ) → position (begins_line text mark) (range_with_len from (length text - from)) ≡ None
     → length text ≤ marked_from text mark from
 unfolding marked_from
 no_line text mark from e =
-    omega (arith, not_found (begins_line text mark) (range_with_len from (length text - from)) e, length-range_with_len from (length text - from))
+    let left = length text - from in
+    omega (arith, not_found (begins_line text mark) (range_with_len from left) e, length-range_with_len from left)

@@ -10,7 +10,8 @@ use Rattle.std.specs.Io.KnownBytes.{Consumes}
 use Rattle.std.proofs.Common.{le_refl, drop_at, length-take-le}
 use Rattle.std.proofs.lemmas.Slice.{take-put_mid_below}
 
-pub consumed : (a b c : Option (List ℕ)) (first second : List ℕ) → Consumes a b first → Consumes b c second → Consumes a c (first ++ second)
+pub consumed : (a b c : Option (List ℕ)) (first second : List ℕ) → Consumes a b first → Consumes b c second
+    → Consumes a c (first ++ second)
 consumed None b c first second p q = tt
 consumed (Some x) None c first second p q = absurd p
 consumed (Some x) (Some y) None first second p q = absurd q
@@ -20,5 +21,7 @@ pub filled : (at left count : ℕ) (room read : List ℕ) → at ≤ length room
     → take (at + count) (put_mid at left room read) ≡ take at room ++ take count read
 filled at left count room read within fits =
     let past = post_of at left room in
-    let rest = ap (take count) (drop_at (take at room) (read ++ past) at (length-take-le at room within)) ∙ take-append-le count read past fits in
-    take-add at count (put_mid at left room read) ∙ ap₂ (λ (x y : List ℕ). x ++ y) (take-put_mid_below at left room read at (le_refl at) within) rest
+    let kept = take-put_mid_below at left room read at (le_refl at) within in
+    let ahead = drop_at (take at room) (read ++ past) at (length-take-le at room within) in
+    let more = ap (take count) ahead ∙ take-append-le count read past fits in
+    take-add at count (put_mid at left room read) ∙ ap₂ (λ (x y : List ℕ). x ++ y) kept more
