@@ -1,5 +1,5 @@
 // A set of numbers, in words: number v is bit v % 64 of word v / 64. A number past the last word is in no set: to mark or clear it
-// changes nothing.
+// changes nothing. Numbers are bytes, so no method reaches a word past the fourth.
 #![tactic(auto, using(crate::proofs::Sets::words_are, crate::proofs::Sets::past_words), unfolding(crate::specs::Members::has, crate::specs::Members::marked, crate::specs::Members::cleared, crate::specs::Sets::has_number, crate::specs::Sets::no_numbers, crate::specs::Sets::mark_number, crate::specs::Sets::clear_number))]
 
 ghost use Rattle.std.specs.Prelude.{◌≡◌};

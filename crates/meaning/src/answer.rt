@@ -43,6 +43,12 @@ pub struct SourceEvent {
     pub signal: Option<Signal>,
 }
 
+// An unlisted source event does nothing.
+pub const NO_EVENT: SourceEvent = SourceEvent {
+    action: Action::Nothing,
+    signal: None,
+};
+
 #[derive(Clone, Copy, Drop)]
 pub enum TargetAction {
     Nothing,

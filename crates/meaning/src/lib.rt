@@ -8,7 +8,8 @@ pub mod line; // what one line says
 pub mod lookup; // what the table says
 
 pub use answer::{
-    Action, Frame, HostVector, IrqLine, Route, Signal, SourceEvent, SubjectVector, TargetAction,
+    Action, Frame, HostVector, IrqLine, NO_EVENT, Route, Signal, SourceEvent, SubjectVector,
+    TargetAction,
 };
 pub use lookup::{frame_at, frame_count, route_of, source_event, target_event, trap_event};
 

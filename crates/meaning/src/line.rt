@@ -8,29 +8,8 @@ use crate::answer::{
     Action, Frame, IrqLine, Route, Signal, SourceEvent, SubjectVector, TargetAction,
 };
 use records::{EventLine, FrameLine, RouteLine, TargetLine};
-
-// FF, in the fields that may say so.
-const NONE: u8 = 255;
-
-// The actions of kind 06.
-const SLEEP: u8 = 1;
-
-const YIELD: u8 = 2;
-
-const HANDOVER: u8 = 3;
-
-const UNMASK: u8 = 4;
-
-const REBOOT: u8 = 5;
-
-const POWER_OFF: u8 = 6;
-
-const PANIC: u8 = 7;
-
-// The actions of kind 08.
-const INJECT: u8 = 1;
-
-const RESET: u8 = 2;
+use rules::action::{HANDOVER, INJECT, PANIC, POWER_OFF, REBOOT, RESET, SLEEP, UNMASK, YIELD};
+use rules::ranges::NONE;
 
 fn masking_from(irq: u8) -> Option<IrqLine>
     ensures { result ≡ masking_from irq }

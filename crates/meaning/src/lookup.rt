@@ -5,7 +5,7 @@
 ghost use Rattle.std.specs.Prelude.{◌≡◌, cond, eqb, Some, None};
 ghost use Rattle.meaning.specs.Lookups.{route_of, source_event, default_event, trap_event, target_event, frame_at, frame_count};
 
-use crate::answer::{Action, Frame, HostVector, Route, SourceEvent, TargetAction};
+use crate::answer::{Frame, HostVector, NO_EVENT, Route, SourceEvent, TargetAction};
 use crate::line::{frame_from, route_from, source_from, target_from};
 use rows::{
     MINOR_KEYS, SUBJECT_KEYS, default_of, event_row, keyed_event, keyed_minor, keyed_route,
@@ -32,10 +32,7 @@ pub fn source_event(rows: &[u64], subject: u8, event: u8) -> SourceEvent
 {
     match listed(event_row(rows, subject, event)) {
         Some(row) => source_from(keyed_event(subject, event, row)),
-        None => SourceEvent {
-            action: Action::Nothing,
-            signal: None,
-        },
+        None => NO_EVENT,
     }
 }
 

@@ -109,52 +109,65 @@ module _ (text : List ℕ) (t : Table) (at : ℕ) (g : Going text t at) where
   going_fits = place_fits t g.earlier g.tied
 
   -- the line of the part that begins there
-  module _ (l : at < length text) (line : Result (Record × ℕ) NoRecord) (e : line ≡ record_line (take (length text - at) (drop at text))) where
+  module _ (l : at < length text) where
     some_left : 0 < length (drop at text)
     some_left = omega (arith, length-drop at text)
 
-    line_is : record_line (drop at text) ≡ line
-    line_is = sym (e ∙ ap record_line (take_all (length text - at) (drop at text) (omega (arith, length-drop at text))))
-
     -- what comes of it where it is no record
-    ends : (other : Result (Record × ℕ) NoRecord) → line ≡ other → ((x : Record × ℕ) → other ≡ Ok x → ⊥) → no_record other (t.done.lines + 1) ≡ read_of text
-    ends (Ok x) q d = absurd (d x refl)
-    ends (Err IllFormedLine) q d = sym (g.left ∙ judge_ill_formed g.earlier (drop at text) some_left (line_is ∙ q) ∙ ap (no_record (Err IllFormedLine)) line_number)
-    ends (Err WrongKindLine) q d = sym (g.left ∙ judge_wrong_kind g.earlier (drop at text) some_left (line_is ∙ q) ∙ ap (no_record (Err WrongKindLine)) line_number)
-
-    pub going_no_record : ((x : Record × ℕ) → line ≡ Ok x → ⊥) → no_record line (t.done.lines + 1) ≡ read_of text
-    going_no_record = ends line refl
+    pub going_no_record : (line : Result (Record × ℕ) NoRecord) → record_line (drop at text) ≡ line → ((r : Record) (end : ℕ) → line ≡ Ok (r, end) → ⊥)
+        → read_of text ≡ no_record line (t.done.lines + 1)
+    going_no_record (Ok (r, end)) q d = absurd (d r end refl)
+    going_no_record (Err IllFormedLine) q d = g.left ∙ judge_ill_formed g.earlier (drop at text) some_left q ∙ ap (no_record (Err IllFormedLine)) line_number
+    going_no_record (Err WrongKindLine) q d = g.left ∙ judge_wrong_kind g.earlier (drop at text) some_left q ∙ ap (no_record (Err WrongKindLine)) line_number
 
     -- and where it is one
-    module _ (r : Record) (end : ℕ) (q : line ≡ Ok (r, end)) where
+    module _ (r : Record) (end : ℕ) (q : record_line (drop at text) ≡ Ok (r, end)) where
       got_line : GotLine (drop at text) r end
-      got_line = got (drop at text) r end (line_is ∙ q)
+      got_line = got (drop at text) r end q
 
-      pub going_some : 0 < end
-      going_some = got_line.some
-
-      pub going_within : at + end ≤ length text
+      going_within : at + end ≤ length text
       going_within = omega (arith, got_line.within, length-drop at text, g.within)
 
       onward_is : read_of text ≡ onward (verdict g.earlier r) (judge (r ∷ g.earlier) (lines_of (drop end (drop at text))))
-      onward_is = g.left ∙ judge_got g.earlier (drop at text) some_left r end (line_is ∙ q)
+      onward_is = g.left ∙ judge_got g.earlier (drop at text) some_left r end q
 
-      pub going_refused : (answer : Result Unit Refusal) → answer ≡ verdict_by t r → ((x : Unit) → answer ≡ Ok x → ⊥) → handed_up answer ≡ read_of text
-      unfolding onward handed_up refusal
-      going_refused (Ok done) v d = absurd (d done refl)
-      going_refused (Err why) v d = sym (onward_is ∙ rw (sym (by_lines t g.earlier g.tied r) ∙ sym v))
+      pub going_refused : (why : Refusal) → verdict g.earlier r ≡ Err why → read_of text ≡ refusal why
+      unfolding onward
+      going_refused why v = onward_is ∙ rw v
 
-      pub going_on : Ok tt ≡ verdict_by t r → Going text (with_line t r (Ok tt)) (at + end)
+      pub going_on : verdict g.earlier r ≡ Ok tt → Going text (with_line t r (Ok tt)) (at + end)
       unfolding onward with_line progress_after
       going_on v =
-          let accepted : verdict g.earlier r ≡ Ok tt = sym (by_lines t g.earlier g.tied r) ∙ sym v in
           record {
             earlier = r ∷ g.earlier;
-            tied = holds_more t g.earlier g.tied r accepted;
+            tied = holds_more t g.earlier g.tied r v;
             within = going_within;
             counted = omega (arith, got_line.some, g.counted);
-            left = onward_is ∙ rw accepted (ap (λ (s : List ℕ). judge (r ∷ g.earlier) (lines_of s)) (drop-drop end at text));
+            left = onward_is ∙ rw v (ap (λ (s : List ℕ). judge (r ∷ g.earlier) (lines_of s)) (drop-drop end at text));
           }
+
+    -- the same of what the code has: the line that it read, and the answer of its table
+    module _ (line : Result (Record × ℕ) NoRecord) (e : line ≡ record_line (take (length text - at) (drop at text))) where
+      line_is : record_line (drop at text) ≡ line
+      line_is = sym (e ∙ ap record_line (take_all (length text - at) (drop at text) (omega (arith, length-drop at text))))
+
+      pub read_no_record : ((x : Record × ℕ) → line ≡ Ok x → ⊥) → no_record line (t.done.lines + 1) ≡ read_of text
+      read_no_record d = sym (going_no_record line line_is (λ r end q. d (r, end) q))
+
+      module _ (r : Record) (end : ℕ) (q : line ≡ Ok (r, end)) where
+        pub read_some : 0 < end
+        read_some = (got_line r end (line_is ∙ q)).some
+
+        pub read_within : at + end ≤ length text
+        read_within = going_within r end (line_is ∙ q)
+
+        pub read_refused : (answer : Result Unit Refusal) → answer ≡ verdict_by t r → ((x : Unit) → answer ≡ Ok x → ⊥) → handed_up answer ≡ read_of text
+        unfolding handed_up refusal
+        read_refused (Ok done) v d = absurd (d done refl)
+        read_refused (Err why) v d = sym (going_refused r end (line_is ∙ q) why (sym (by_lines t g.earlier g.tied r) ∙ sym v))
+
+        pub read_on : Ok tt ≡ verdict_by t r → Going text (with_line t r (Ok tt)) (at + end)
+        read_on v = going_on r end (line_is ∙ q) (sym (by_lines t g.earlier g.tied r) ∙ sym v)
 
   module _ (l : length text ≤ at) where
     going_end : read_of text ≡ at_end g.earlier
@@ -167,9 +180,8 @@ module _ (text : List ℕ) (t : Table) (at : ℕ) (g : Going text t at) where
         let e : read_of text ≡ acceptance (policy_of g.earlier) = going_end ∙ rw (eq-eqb (last_kind g.earlier) 10 q) in
         ap (λ (rows : List ℕ). acceptance (record { rows = rows })) (tied_table _ _ _ _ _ g.tied) ∙ sym e
 
-    pub end_missing : (t.done.kind ≡ 10 → ⊥) → refusal (WrongKind (t.done.lines + 1)) ≡ read_of text
+    pub end_missing : (t.done.kind ≡ 10 → ⊥) → read_of text ≡ refusal (WrongKind (t.done.lines + 1))
     unfolding at_end
     end_missing h =
         let q : last_kind g.earlier ≡ 10 → ⊥ = λ z. h (g.tied.kind ∙ z) in
-        let e : read_of text ≡ refusal (WrongKind (length g.earlier + 1)) = going_end ∙ rw (ne_eqb (last_kind g.earlier) 10 q) in
-        ap (λ (n : ℕ). refusal (WrongKind n)) (sym line_number) ∙ sym e
+        going_end ∙ rw (ne_eqb (last_kind g.earlier) 10 q) (ap (λ (n : ℕ). refusal (WrongKind n)) line_number)

@@ -1,7 +1,7 @@
 // A text, line by line: the first faulty line decides.
 #![tactic(auto, unfolding(crate::specs::Reads::refusal, crate::specs::Reads::handed_up, crate::specs::Reads::no_record))]
 
-ghost use Rattle.std.specs.Prelude.{◌≡◌, Err};
+ghost use Rattle.std.specs.Prelude.{◌≡◌};
 ghost use Rattle.policy.specs.Reads.{refusal, no_record, handed_up, read_of};
 
 use crate::table::Table;

@@ -1,4 +1,3 @@
-pub mod Laws
 pub mod CodeLaws
 pub mod PartLaws
 pub mod FreshLaws

@@ -5,7 +5,7 @@ ghost use Rattle.std.specs.Prelude.{◌≡◌};
 ghost use Rattle.records.specs.Kinds.{kind_of, size_of};
 
 // The kinds, as byte 0 of a line has them.
-pub(crate) const HEADER: u8 = 1;
+pub const HEADER: u8 = 1;
 
 pub(crate) const PARTITION: u8 = 2;
 
@@ -23,7 +23,7 @@ pub(crate) const TARGET: u8 = 8;
 
 pub(crate) const ROUTE: u8 = 9;
 
-pub(crate) const END: u8 = 10;
+pub const END: u8 = 10;
 
 #[derive(Clone, Copy, Drop)]
 pub struct Counts {

@@ -15,8 +15,8 @@ pub use key_place::{
     keyed_trap, minor_row, route_row, target_row, trap_row,
 };
 pub use lookup::{
-    counts_of, cpu_of, default_of, group_given, group_of, is_framed, length_at, partition_given,
-    partition_of, row_given, subject_given,
+    counts_of, cpu_of, default_of, group_given, group_of, home_of, is_framed, length_at,
+    partition_given, partition_of, row_given, subject_given,
 };
 pub use place::{GROUPS, PARTITIONS, ROWS, SUBJECTS, frames_place, place_of};
 pub use row::{counts_in, pack, record_at};

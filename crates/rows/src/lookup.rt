@@ -80,6 +80,13 @@ pub fn group_of(rows: &[u64], subject: u8) -> u8
     group
 }
 
+// The CPU of a subject, by its group and partition.
+pub fn home_of(rows: &[u64], subject: u8) -> u8
+    ensures { result ≡ cpu_of rows.now (partition_of rows.now (group_of rows.now subject)) }
+{
+    cpu_of(rows, partition_of(rows, group_of(rows, subject)))
+}
+
 // The default trap event of a subject.
 #[tactic(auto, unfolding(crate::specs::Lookups::default_of))]
 pub fn default_of(rows: &[u64], subject: u8) -> u8

@@ -67,6 +67,6 @@ pub fn place_of(next: usize, rec: Record) -> usize
         Record::Trap(t) => TRAPS + subject_key(TRAP_KEYS, t.subject, t.trap),
         Record::Target(t) => TARGETS + subject_key(TARGET_KEYS, t.subject, t.event),
         Record::Route(w) => ROUTES + w.host as usize,
-        Record::End { count: _ } => ROWS,
+        Record::End { .. } => ROWS,
     }
 }

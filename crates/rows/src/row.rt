@@ -43,7 +43,7 @@ fn bytes_of(rec: Record) -> [u8; 8]
         Record::Trap(t) => [0, 0, 0, 0, 0, 0, 1, t.event],
         Record::Target(t) => [0, 0, 0, 0, 0, 1, t.action, t.vector],
         Record::Route(w) => [0, 0, 0, 0, 1, w.subject, w.vector, w.irq],
-        Record::End { count: _ } => [0; 8],
+        Record::End { .. } => [0; 8],
     }
 }
 

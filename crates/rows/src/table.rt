@@ -1,4 +1,4 @@
-// Reading and writing one row; past the table's end there is no row.
+// An item of a list read or stored by its place, and a row of the table; past the end there is none.
 ghost use Rattle.std.specs.Prelude.{◌≡◌, get_or, set};
 
 // The item at a place, or another where there is none.

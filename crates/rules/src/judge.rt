@@ -8,7 +8,7 @@ use crate::misplaced::is_misplaced;
 use crate::ranges::{in_range, wrong_kind};
 use crate::refusal::Refusal;
 use records::{Record, kind_of};
-use rows::{counts_of, frames_place, place_of};
+use rows::{MINOR_KEYS, counts_of, frames_place, place_of};
 
 // How far the reading has come: the kind of the last line, the place after it in the table, and how many lines were read.
 #[derive(Clone, Copy, Drop)]
@@ -25,7 +25,7 @@ fn is_behind(next: usize, rec: Record) -> bool
 {
     match rec {
         Record::Header(_) | Record::End { .. } => false,
-        Record::Frame(f) => frames_place(f.major, f.cpu) + 8 <= next,
+        Record::Frame(f) => frames_place(f.major, f.cpu) + MINOR_KEYS as usize <= next,
         _ => place_of(next, rec) < next,
     }
 }

@@ -3,6 +3,7 @@
 
 ghost use Rattle.rules.specs.Lawful.{Lawful};
 
+pub mod action; // the actions of 06 and 08
 pub mod ends; // the rules at 0A: complete, and even
 pub mod judge; // a line's verdict
 pub mod misplaced; // the rules on what a line names
@@ -12,7 +13,7 @@ pub mod refusal; // the refusals P0 to P9
 
 pub use judge::{Progress, verdict_of};
 pub use plan::plan_length;
-pub use ranges::END;
+pub use records::kind::END;
 pub use refusal::Refusal;
 
 // No code: that a line gets the smallest number, and the bounds that document 01 names, is this function's contract.

@@ -1,19 +1,12 @@
 // P7: what a line names, and what an event's fields may be together.
 ghost use Rattle.std.specs.Prelude.{◌≡◌};
-ghost use Rattle.rules.specs.Rules.{has_target, unknown_subject, wrong_irq_line, wrong_handover, half_target, wrong_target, cpu_of_subject, wrong_kick, event_misplaced, frame_misplaced, trap_misplaced, misplaced};
+ghost use Rattle.rules.specs.Rules.{has_target, unknown_subject, wrong_irq_line, wrong_handover, half_target, wrong_target, wrong_kick, event_misplaced, frame_misplaced, trap_misplaced, misplaced};
 ghost use Rattle.rules.specs.Tables.{said_by};
 
+use crate::action::{HANDOVER, NOTHING, REBOOT, UNMASK};
 use crate::ranges::NONE;
 use records::{EventLine, FrameLine, Record, TrapLine};
-use rows::{
-    cpu_of, default_of, group_given, group_of, partition_given, partition_of, subject_given,
-};
-
-const HANDOVER: u8 = 3;
-
-const UNMASK: u8 = 4;
-
-const REBOOT: u8 = 5;
+use rows::{cpu_of, default_of, group_given, group_of, home_of, partition_given, subject_given};
 
 #[tactic(auto, unfolding(crate::specs::Rules::has_target))]
 fn has_target(e: EventLine) -> bool
@@ -66,23 +59,15 @@ fn half_target(e: EventLine) -> bool
 fn wrong_target(e: EventLine) -> bool
     ensures { result ≡ wrong_target e }
 {
-    (REBOOT <= e.action && has_target(e)) || (e.action == 0 && !has_target(e))
-}
-
-#[tactic(auto, unfolding(crate::specs::Rules::cpu_of_subject, crate::specs::Tables::said_by))]
-fn cpu_of_subject(rows: &[u64], subject: u8) -> u8
-    ensures { result ≡ cpu_of_subject (said_by rows.now) subject }
-{
-    cpu_of(rows, partition_of(rows, group_of(rows, subject)))
+    (REBOOT <= e.action && has_target(e)) || (e.action == NOTHING && !has_target(e))
 }
 
 // A kick without a target on another CPU.
-#[tactic(auto, unfolding(crate::specs::Rules::wrong_kick))]
+#[tactic(auto, unfolding(crate::specs::Rules::wrong_kick, crate::specs::Rules::cpu_of_subject, crate::specs::Tables::said_by))]
 fn wrong_kick(rows: &[u64], e: EventLine) -> bool
     ensures { result ≡ wrong_kick (said_by rows.now) e }
 {
-    e.kick == 1
-        && (!has_target(e) || cpu_of_subject(rows, e.target) == cpu_of_subject(rows, e.subject))
+    e.kick == 1 && (!has_target(e) || home_of(rows, e.target) == home_of(rows, e.subject))
 }
 
 #[tactic(auto, unfolding(crate::specs::Rules::event_misplaced))]

@@ -2,6 +2,8 @@
 ghost use Rattle.std.specs.Prelude.{◌≡◌, ◌&&◌, leb};
 ghost use Rattle.rules.specs.Rules.{wrong_kind, counts_in_range, partition_in_range, group_in_range, subject_in_range, frame_in_range, event_in_range, trap_in_range, target_in_range, routable, route_in_range, in_range};
 
+use crate::action::{INJECT, PANIC, RESET};
+use records::kind::{END, HEADER};
 use records::{
     Counts, EventLine, FrameLine, GroupLine, PartitionLine, Record, RouteLine, SubjectLine,
     TargetLine, TrapLine,
@@ -9,10 +11,6 @@ use records::{
 
 // FF, in the fields that may say so.
 pub const NONE: u8 = 255;
-
-pub const HEADER: u8 = 1;
-
-pub const END: u8 = 10;
 
 const MOST_CPUS: u8 = 4;
 
@@ -25,8 +23,6 @@ const MOST_PARTITIONS: u8 = 8;
 const MOST_MAJORS: u8 = 4;
 
 const LAST_EVENT: u8 = 15;
-
-const LAST_ACTION: u8 = 7;
 
 const LAST_IRQ_LINE: u8 = 23;
 
@@ -107,7 +103,7 @@ fn event_in_range(n: Counts, e: EventLine) -> bool
 {
     e.subject < n.subjects
         && e.event <= LAST_EVENT
-        && e.action <= LAST_ACTION
+        && e.action <= PANIC
         && (e.irq <= LAST_IRQ_LINE || e.irq == NONE)
         && (e.target < n.subjects || e.target == NONE)
         && (e.target_event <= LAST_TARGET_EVENT || e.target_event == NONE)
@@ -128,8 +124,8 @@ fn target_in_range(n: Counts, t: TargetLine) -> bool
     t.subject < n.subjects
         && t.event <= LAST_TARGET_EVENT
         && match t.action {
-            1 => (FIRST_VECTOR..=LAST_VECTOR).contains(&t.vector),
-            2 => t.vector == 0,
+            INJECT => (FIRST_VECTOR..=LAST_VECTOR).contains(&t.vector),
+            RESET => t.vector == 0,
             _ => false,
         }
 }

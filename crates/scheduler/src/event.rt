@@ -2,13 +2,12 @@
 #![tactic(auto, unfolding(crate::specs::Calls::stopping_of, crate::specs::Calls::kicked_by, crate::specs::Calls::stop, crate::specs::Calls::event_then, crate::specs::Calls::event_handled, crate::specs::Calls::hypercall_event, crate::specs::Calls::advances, crate::specs::Calls::trap_source, meaning::specs::Answers::no_event))]
 
 ghost use Rattle.std.specs.Prelude.{◌≡◌};
-ghost use Rattle.rows.specs.Lookups.{cpu_of, partition_of, group_of};
 ghost use Rattle.scheduler.specs.Calls.{stopping_of, kicked_by, stop, event_handled, hypercall_event, advances, trap_source};
 
 use crate::state::{State, Stepped};
 use calls::{Answer, Notes, Reason};
-use meaning::{Action, Signal, SourceEvent, source_event, trap_event};
-use rows::{cpu_of, group_of, partition_of};
+use meaning::{Action, NO_EVENT, Signal, SourceEvent, source_event, trap_event};
+use rows::home_of;
 
 // Source events go to so many.
 const EVENTS: u8 = 16;
@@ -32,13 +31,6 @@ pub(crate) fn advances(action: Action) -> bool
     matches!(action, Action::Sleep | Action::Yield)
 }
 
-// The CPU of a subject.
-fn home_of(rows: &[u64], subject: u8) -> u8
-    ensures { result ≡ cpu_of rows.now (partition_of rows.now (group_of rows.now subject)) }
-{
-    cpu_of(rows, partition_of(rows, group_of(rows, subject)))
-}
-
 // The CPU that a handled event kicks, if it says so.
 fn kicked_by(rows: &[u64], signal: Option<Signal>) -> Option<u8>
     ensures { result ≡ kicked_by rows.now signal }
@@ -56,10 +48,7 @@ pub(crate) fn hypercall_event(rows: &[u64], subject: u8, event: u8) -> SourceEve
     if event < EVENTS {
         source_event(rows, subject, event)
     } else {
-        SourceEvent {
-            action: Action::Nothing,
-            signal: None,
-        }
+        NO_EVENT
     }
 }
 

@@ -21,7 +21,7 @@ impl State {
         ensures { result ≡ entered_in_range rows.now self cpu }
     {
         let entered = self.entered_on(cpu);
-        entered == NOBODY || !self.clock.waiting(cpu) && entered == self.active_on(rows, cpu)
+        entered == NOBODY || (!self.clock.waiting(cpu) && entered == self.active_on(rows, cpu))
     }
 
     pub fn in_range(self, rows: &[u64]) -> bool

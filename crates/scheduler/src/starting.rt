@@ -5,8 +5,7 @@ ghost use Rattle.std.specs.Prelude.{◌≡◌};
 ghost use Rattle.scheduler.specs.Start.{not_started, started_with, start_of};
 
 use crate::state::State;
-use policy::own_text::known;
-use policy::{Policy, Reading};
+use policy::{Policy, Reading, known};
 use rules::Refusal;
 
 // The verdict, and beside it the state: fresh, or all zeros where nothing is started.

@@ -6,8 +6,7 @@ ghost use Rattle.scheduler.specs.Steps.{no_such, bad_flag, minds, after_stop, no
 
 use crate::state::{NOBODY, State, Stepped};
 use calls::{Call, Refusal};
-use policy::Policy;
-use policy::own_text::known;
+use policy::{Policy, known};
 use rows::counts_of;
 
 // A flag goes to so much.

@@ -2,7 +2,7 @@
 use native.Mathlib.Omega.{arith}
 use mathlib.Core.Path.{sym, ◌∙◌}
 use Rattle.policy.specs.Reads.{acceptance}
-use Rattle.policy.proofs.ReadLaws.{too_long, going_start, going_fits, going_no_record, going_some, going_within, going_refused, going_on, end_accepted, end_missing}
+use Rattle.policy.proofs.ReadLaws.{too_long, going_start, going_fits, read_no_record, read_some, read_within, read_refused, read_on, end_accepted, end_missing}
 use Rattle.policy.proofs.reader.read.Goals as goal
 
 pub returns-then-text-gt-LONGEST_TEXT : goal.returns-then-text-gt-LONGEST_TEXT
@@ -12,7 +12,7 @@ pub loop-at-init : goal.loop-at-init
 loop-at-init c = rw c.empty-table.ensures (going_start _ (omega arith))
 
 pub returns-in_default : goal.returns-in_default
-returns-in_default c = c.no_record.ensures ∙ going_no_record _ _ _ c.loop-at.invariant (omega arith) _ c.read_record-line.ensures c.in_default.not-Ok
+returns-in_default c = c.no_record.ensures ∙ read_no_record _ _ _ c.loop-at.invariant (omega arith) _ c.read_record-line.ensures c.in_default.not-Ok
 
 pub add-verdict-requires-clause-place : goal.add-verdict-requires-clause-place
 add-verdict-requires-clause-place c = going_fits _ _ _ c.loop-at.invariant _
@@ -20,26 +20,26 @@ add-verdict-requires-clause-place c = going_fits _ _ _ c.loop-at.invariant _
 pub returns-in_default-verdict : goal.returns-in_default-verdict
 returns-in_default-verdict c =
     c.handed_up.ensures
-    ∙ going_refused _ _ _ c.loop-at.invariant (omega arith) _ c.read_record-line.ensures _ _ c.in-Ok.is _ c.add-verdict.ensures.verdict c.in_default-verdict.not-Ok
+    ∙ read_refused _ _ _ c.loop-at.invariant (omega arith) _ c.read_record-line.ensures _ _ c.in-Ok.is _ c.add-verdict.ensures.verdict c.in_default-verdict.not-Ok
 
 pub overflow_add-at : goal.overflow_add-at
-overflow_add-at c = omega (arith, going_within _ _ _ c.loop-at.invariant (omega arith) _ c.read_record-line.ensures _ _ c.in-Ok.is)
+overflow_add-at c = omega (arith, read_within _ _ _ c.loop-at.invariant (omega arith) _ c.read_record-line.ensures _ _ c.in-Ok.is)
 
 pub loop-at-smaller : goal.loop-at-smaller
 loop-at-smaller c =
     omega (
       arith,
-      going_some _ _ _ c.loop-at.invariant (omega arith) _ c.read_record-line.ensures _ _ c.in-Ok.is,
-      going_within _ _ _ c.loop-at.invariant (omega arith) _ c.read_record-line.ensures _ _ c.in-Ok.is,
+      read_some _ _ _ c.loop-at.invariant (omega arith) _ c.read_record-line.ensures _ _ c.in-Ok.is,
+      read_within _ _ _ c.loop-at.invariant (omega arith) _ c.read_record-line.ensures _ _ c.in-Ok.is,
     )
 
 pub loop-at-preserved : goal.loop-at-preserved
 loop-at-preserved c =
     rw (c.add-verdict.ensures.table, c.in-Ok-verdict.is)
-    (going_on _ _ _ c.loop-at.invariant (omega arith) _ c.read_record-line.ensures _ _ c.in-Ok.is (sym c.in-Ok-verdict.is ∙ c.add-verdict.ensures.verdict))
+    (read_on _ _ _ c.loop-at.invariant (omega arith) _ c.read_record-line.ensures _ _ c.in-Ok.is (sym c.in-Ok-verdict.is ∙ c.add-verdict.ensures.verdict))
 
 pub returns-then-table-ne-END : goal.returns-then-table-ne-END
-returns-then-table-ne-END c = c.refused-then-table-ne-END.ensures ∙ end_missing _ _ _ c.loop-at.invariant (omega arith) c.if-table-ne-END.true
+returns-then-table-ne-END c = c.refused-then-table-ne-END.ensures ∙ sym (end_missing _ _ _ c.loop-at.invariant (omega arith) c.if-table-ne-END.true)
 
 pub returns : goal.returns
 unfolding acceptance
