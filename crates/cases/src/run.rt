@@ -30,11 +30,10 @@ fn fill<R: Read>(reader: &mut R, room: &mut [u8]) -> io::Result<usize>
 
 // Drops the first bytes: the others stand from the front on.
 fn shift(bytes: &mut [u8], used: usize)
+    requires { used ≤ length bytes.old }
     ensures { (k : ℕ) → k + used < length bytes.old → get_or bytes.new k 0 ≡ get_or bytes.old (k + used) 0 }
 {
-    for at in used..bytes.len() {
-        bytes[at - used] = bytes[at];
-    }
+    bytes.copy_within(used.., 0);
 }
 
 // What a program does with each case.
@@ -54,12 +53,12 @@ pub trait Cases {
             if have == 0 {
                 return Ok(());
             }
-            let (case, rest) = split_at_line(&room[..have], 1, Self::MARK);
+            let (case, _) = split_at_line(&room[..have], 1, Self::MARK);
             let (first, text) = split_line(case);
             Self::run(rt, first, text)?;
-            let (used, left) = (case.len(), rest.len());
+            let used = case.len();
             shift(&mut room[..have], used);
-            have = left;
+            have -= used;
         }
         Ok(())
     }

@@ -1,28 +1,27 @@
 // A text read, and where it is accepted written back.
-use crate::buffer::{FILLED, is_kept, is_whole};
+use crate::buffer::{SIZE, is_kept, is_whole, written};
 use cases::Refused;
-use policy::{Policy, read, write};
+use policy::{Policy, read};
 use rules::Refusal;
 use std::io;
 
 // What the writer answers, and what it leaves in the buffer: the text's own bytes, and past them what was there.
 fn accepted(rt: &impl Print, policy: Policy, text: &[u8]) -> io::Result<()> {
-    let mut out = FILLED;
-    match write(policy, &mut out) {
+    written(policy, SIZE, |answer, out| match answer {
         Err(why) => {
             let why = Refused(why);
             print!(rt; "FE, and writing it gives {why}")
         }
-        answer if is_whole(answer, text, &out) => print!(rt; "FE same"),
+        answer if is_whole(answer, text, out) => print!(rt; "FE same"),
         _ => print!(rt; "FE, and written otherwise"),
-    }
+    })
 }
 
 // Whether writing the policy is P0 and changes no byte.
-fn is_unknown(policy: Policy) -> bool {
-    let mut out = FILLED;
-    let answer = write(policy, &mut out);
-    is_kept(answer, 0, &out)
+pub(crate) fn is_unknown(policy: Policy) -> bool {
+    written(policy, SIZE, |answer, out| {
+        matches!(answer, Err(Refusal::NotAPolicy)) && is_kept(out)
+    })
 }
 
 // The refusal. The policy beside it is all zeros, which no accepted text gives.

@@ -1,8 +1,9 @@
 // Writings that are refused: P0 of a changed table, P9 of a short buffer. Not a byte of the buffer may change.
-use crate::buffer::{FILLED, SIZE, changed, is_kept, is_whole};
+use crate::buffer::{SIZE, changed, is_kept, is_whole, written};
+use crate::reading::is_unknown;
 use cases::{Refused, row_of, with_row};
 use hexline::number_at;
-use policy::{Policy, read, write};
+use policy::{Policy, read};
 use rules::Refusal;
 use std::io;
 
@@ -13,7 +14,7 @@ const HIGH_BIT: u64 = 1 << 63;
 const LOW_ROW: u64 = 1;
 
 // What is done with the policy of an accepted text; the refusal of another is printed.
-fn accepted<F: FnOnce(Policy) -> io::Result<()>>(
+fn with_accepted<F: FnOnce(Policy) -> io::Result<()>>(
     rt: &impl Print,
     text: &[u8],
     then: F,
@@ -27,33 +28,24 @@ fn accepted<F: FnOnce(Policy) -> io::Result<()>>(
     }
 }
 
-// The policy written into the first so many bytes alone.
-fn write_within(policy: Policy, out: &mut [u8], length: usize) -> Result<usize, Refusal> {
-    match out.get_mut(..length) {
-        Some(room) => write(policy, room),
-        None => Err(Refusal::TooLong),
-    }
-}
-
 // What the writer answers, and how many bytes of the buffer it changes past those that it says it wrote.
 fn print_written(rt: &impl Print, policy: Policy, length: usize) -> io::Result<()> {
-    let mut out = FILLED;
-    match write_within(policy, &mut out, length) {
+    written(policy, length, |answer, out| match answer {
         Ok(n) => {
-            let past = changed(&out, n);
+            let past = changed(out, n);
             print!(rt; "FE, {n} bytes written and past them {past} changed")
         }
         Err(why) => {
-            let (why, all) = (Refused(why), changed(&out, 0));
+            let (why, all) = (Refused(why), changed(out, 0));
             print!(rt; "{why}, {all} bytes changed")
         }
-    }
+    })
 }
 
 // Written with room for every text, and with none: P0 comes before P9. The name begins with place and row,
 // as `0019 0000000000010000 ..`.
 pub(crate) fn changed_row(rt: &impl Print, name: &[u8], text: &[u8]) -> io::Result<()> {
-    accepted(rt, text, |policy| {
+    with_accepted(rt, text, |policy| {
         let row = row_of(name.get(5..).unwrap_or(&[]));
         let other = with_row(policy, number_at(name, 0) as usize, row);
         print_written(rt, other, SIZE)?;
@@ -70,16 +62,12 @@ fn unknown<F: Fn(u64) -> u64>(policy: Policy, change: F) -> usize
         .rows
         .iter()
         .enumerate()
-        .filter(|(place, row)| {
-            let mut out = FILLED;
-            let answer = write(with_row(policy, *place, change(**row)), &mut out);
-            is_kept(answer, 0, &out)
-        })
+        .filter(|(place, row)| is_unknown(with_row(policy, *place, change(**row))))
         .count()
 }
 
 pub(crate) fn each_row(rt: &impl Print, text: &[u8]) -> io::Result<()> {
-    accepted(rt, text, |policy| {
+    with_accepted(rt, text, |policy| {
         let rows = policy.rows.len();
         let high = unknown(policy, |row| row | HIGH_BIT);
         print!(rt; "FF000000 and no byte changed with bit 63 set in {high} rows of {rows}")?;
@@ -88,18 +76,16 @@ pub(crate) fn each_row(rt: &impl Print, text: &[u8]) -> io::Result<()> {
     })
 }
 
-// Whether writing into a buffer of a length is P9.
+// Whether writing into a buffer of a length is P9 and changes no byte.
 fn is_too_short(policy: Policy, length: usize) -> bool {
-    let mut out = FILLED;
-    let answer = write_within(policy, &mut out, length);
-    is_kept(answer, 9, &out)
+    written(policy, length, |answer, out| {
+        matches!(answer, Err(Refusal::NoRoom)) && is_kept(out)
+    })
 }
 
 // Whether writing into a buffer of a length gives the text.
 fn is_written(policy: Policy, length: usize, text: &[u8]) -> bool {
-    let mut out = FILLED;
-    let answer = write_within(policy, &mut out, length);
-    is_whole(answer, text, &out)
+    written(policy, length, |answer, out| is_whole(answer, text, out))
 }
 
 fn print_from(rt: &impl Print, policy: Policy, length: usize, text: &[u8]) -> io::Result<()> {
@@ -112,7 +98,7 @@ fn print_from(rt: &impl Print, policy: Policy, length: usize, text: &[u8]) -> io
 }
 
 pub(crate) fn each_length(rt: &impl Print, text: &[u8]) -> io::Result<()> {
-    accepted(rt, text, |policy| {
+    with_accepted(rt, text, |policy| {
         let needed = text.len();
         if SIZE <= needed {
             return Ok(());

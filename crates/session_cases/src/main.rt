@@ -15,8 +15,6 @@ use std::io;
 
 mod bench; // what calls are played on
 mod change; // changes between calls
-mod change_clock; // of the clock
-mod change_programs; // of the programs
 mod session; // one case
 
 // What the line before the calls begins with.
