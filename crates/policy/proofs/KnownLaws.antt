@@ -1,13 +1,11 @@
--- Whether a policy's own text gives it, found without the text: its lines are judged as they are read off the table, place by place.
+-- Whether a policy's own text gives it, found without the text: its lines are judged as they are read off the table.
 -- `Knowing` is what that loop keeps: what is left to judge gives what the whole gives.
 use Rattle.std.specs.Prelude.{Result, Ok, Err}
 use Rattle.std.specs.Result.{is_ok}
-use Prim.Native.Nat.{ℕ, zero, suc, ◌+◌, ◌-◌, ◌≤◌, ◌<◌}
+use Prim.Native.Nat.{ℕ, ◌+◌, ◌≤◌}
 use mathlib.Core.Bool.{Bool, true, false, true≢false}
 use mathlib.Core.List.{List, [], ◌∷◌, ◌++◌, append_assoc, append-nil}
 use mathlib.Core.Path.{◌≡◌, refl, ap, sym, ◌∙◌}
-use native.Mathlib.Omega.{arith}
-use native.Mathlib.Numerals.{add-one}
 use lib.Dec.{eqb}
 use lib.Pointwise.{pointwise}
 use lib.ListN.{length, length-append}
@@ -15,7 +13,7 @@ use Rattle.records.specs.declared.kind.Record.{Record}
 use Rattle.records.specs.declared.kind.Record.TheVariants.{End}
 use Rattle.records.specs.Kinds.{kind_of}
 use Rattle.rows.specs.Places.{row_count, place_of}
-use Rattle.rows.specs.Lines.{table_of, line_at, lines_below, lines_in}
+use Rattle.rows.specs.Lines.{table_of, lines_in}
 use Rattle.rules.specs.declared.refusal.Refusal.{Refusal}
 use Rattle.rules.specs.Said.{last_kind}
 use Rattle.rules.specs.Rules.{verdict}
@@ -28,59 +26,28 @@ use Rattle.policy.specs.Writes.{all_lines, same_numbers, gives, known, known_row
 use Rattle.policy.proofs.TableLaws.{Holds, holds_none, by_lines, place_fits, holds_more}
 use Rattle.policy.proofs.Lines.{judge_all}
 use Rattle.policy.proofs.Theorems.{same_pointwise}
-use Rattle.policy.proofs.OwnText.{own_text_read, few_lines}
-
--- ---- the lines from a place on
-
-unfoldable pub lines_from : List ℕ → ℕ → ℕ → List Record
-lines_from rows i zero = []
-lines_from rows i (suc n) = line_at rows i ++ lines_from rows (suc i) n
-
-below_from : (rows : List ℕ) (i n : ℕ) → lines_below rows (i + n) ≡ lines_below rows i ++ lines_from rows i n
-unfolding lines_from lines_below
-below_from rows i zero = let z : i + 0 ≡ i = omega arith in rw z (sym (append-nil (lines_below rows i)))
-below_from rows i (suc n) =
-    let z : i + suc n ≡ suc i + n = omega arith in
-    rw z (below_from rows (suc i) n) ∙ append_assoc (lines_below rows i) (line_at rows i) (lines_from rows (suc i) n)
-
-all_from : (rows : List ℕ) → lines_in rows ≡ lines_from rows 0 row_count
-unfolding lines_in lines_below
-all_from rows = below_from rows 0 row_count
-
--- ---- what is left to judge
-
--- the lines from a place on, and the last
-abbrev pub left : List ℕ → ℕ → List Record
-left given i = lines_from given i (row_count - i) ++ (End (length (lines_in given)) ∷ [])
-
-left_step : (given : List ℕ) (i : ℕ) → i < row_count → left given i ≡ line_at given i ++ left given (suc i)
-unfolding lines_from
-left_step given i l =
-    let z : row_count - i ≡ suc (row_count - suc i) = omega arith in
-    rw z (append_assoc (line_at given i) (lines_from given (suc i) (row_count - suc i)) (End (length (lines_in given)) ∷ []))
+use Rattle.policy.proofs.OwnText.{own_text_read}
+use Rattle.policy.proofs.Chain.{Taken}
 
 -- the lines judged so far, and what is left to judge gives what the whole gives
-pub record Knowing (given : List ℕ) (t : Table) (i : ℕ) : Type 0 where
+pub record Knowing (given : List ℕ) (t : Table) (so_far : List Record) : Type 0 where
   pub earlier : List Record
   pub tied : Holds t earlier
-  pub count : t.done.lines ≡ length (lines_below given i)
-  pub rest : known_rows given ≡ gives (judge_all earlier (left given i)) (record { rows = given })
+  pub count : t.done.lines ≡ length so_far
+  pub rest : (left : List Record) → lines_in given ≡ so_far ++ left → known_rows given ≡ gives (judge_all earlier (left ++ (End (length (lines_in given)) ∷ []))) (record { rows = given })
 
-pub knowing_start : (given : List ℕ) → Knowing given no_lines 0
-unfolding no_lines all_lines lines_below known_rows known
+pub knowing_start : (given : List ℕ) → Knowing given no_lines []
+unfolding no_lines all_lines known_rows known
 knowing_start given =
     record {
       earlier = [];
       tied = holds_none;
       count = refl;
-      rest = ap (λ (x : Reading). gives x (record { rows = given })) (own_text_read (record { rows = given }))
-          ∙ ap (λ (l : List Record). gives (judge_all [] (l ++ (End (length (lines_in given)) ∷ []))) (record { rows = given })) (all_from given);
+      rest = λ left e. ap (λ (x : Reading). gives x (record { rows = given })) (own_text_read (record { rows = given }))
+          ∙ ap (λ (l : List Record). gives (judge_all [] (l ++ (End (length (lines_in given)) ∷ []))) (record { rows = given })) e;
     }
 
-module _ (given : List ℕ) (t : Table) (i : ℕ) (g : Knowing given t i) where
-  pub few : t.done.lines ≤ i
-  few = omega (arith, g.count, few_lines given i)
-
+module _ (given : List ℕ) (t : Table) (so_far : List Record) (g : Knowing given t so_far) where
   pub fits : (r : Record) → verdict_by t r ≡ Ok tt → place_of t.done.next r ≤ row_count
   fits = place_fits t g.earlier g.tied
 
@@ -90,47 +57,24 @@ module _ (given : List ℕ) (t : Table) (i : ℕ) (g : Knowing given t i) where
   unfolding judge_all onward gives refusal
   refused r lines why k v = sym (k ∙ rw (sym (by_lines t g.earlier g.tied r) ∙ sym v))
 
-  module _ (l : i < row_count) where
-    step : (lines : List Record) → line_at given i ≡ lines → known_rows given ≡ gives (judge_all g.earlier (lines ++ left given (suc i))) (record { rows = given })
-    step lines q = g.rest ∙ ap (λ (x : List Record). gives (judge_all g.earlier x) (record { rows = given })) (left_step given i l ∙ ap (λ (x : List Record). x ++ left given (suc i)) q)
+  module _ (r : Record) where
+    pub knowing_refused : Taken (lines_in given) so_far r → (why : Refusal) → Err why ≡ verdict_by t r → false ≡ known_rows given
+    knowing_refused it why = refused r (it.left ++ (End (length (lines_in given)) ∷ [])) why (g.rest (r ∷ it.left) it.whole)
 
-    -- a place without a line
-    pub knowing_skip : line_at given i ≡ [] → Knowing given t (i + 1)
-    unfolding lines_below
-    knowing_skip q =
-        rw (add-one i)
-        (record {
-          earlier = g.earlier;
-          tied = g.tied;
-          count = g.count ∙ ap length (sym (ap (λ (x : List Record). lines_below given i ++ x) q ∙ append-nil (lines_below given i)));
-          rest = step [] q;
-        })
+    pub knowing_on : Ok tt ≡ verdict_by t r → Knowing given (with_line t r (Ok tt)) (so_far ++ r ∷ [])
+    unfolding with_line progress_after judge_all onward
+    knowing_on v =
+        let accepted : verdict g.earlier r ≡ Ok tt = sym (by_lines t g.earlier g.tied r) ∙ sym v in
+        record {
+          earlier = r ∷ g.earlier;
+          tied = holds_more t g.earlier g.tied r accepted;
+          count = ap (λ (n : ℕ). n + 1) g.count ∙ sym (length-append so_far (r ∷ []));
+          rest = λ left e. g.rest (r ∷ left) (e ∙ append_assoc so_far (r ∷ []) left) ∙ rw accepted;
+        }
 
-    -- one with a line, by what it gets
-    module _ (r : Record) (q : line_at given i ≡ r ∷ []) where
-      pub knowing_refused : (why : Refusal) → Err why ≡ verdict_by t r → false ≡ known_rows given
-      knowing_refused why = refused r (left given (suc i)) why (step (r ∷ []) q)
-
-      pub knowing_on : Ok tt ≡ verdict_by t r → Knowing given (with_line t r (Ok tt)) (i + 1)
-      unfolding with_line progress_after lines_below judge_all onward
-      knowing_on v =
-          let accepted : verdict g.earlier r ≡ Ok tt = sym (by_lines t g.earlier g.tied r) ∙ sym v in
-          rw (add-one i)
-          (record {
-            earlier = r ∷ g.earlier;
-            tied = holds_more t g.earlier g.tied r accepted;
-            count = ap (λ (n : ℕ). n + 1) g.count ∙ sym (ap (λ (x : List Record). length (lines_below given i ++ x)) q ∙ length-append (lines_below given i) (r ∷ []));
-            rest = step (r ∷ []) q ∙ rw accepted;
-          })
-
--- at the end of the table
-pub at_end_lem : (given : List ℕ) (t : Table) (i : ℕ) → Knowing given t i → row_count ≤ i → i ≤ row_count → Knowing given t row_count
-at_end_lem given t i g l m = let e : i ≡ row_count = omega arith in rw e at g
-
-module _ (given : List ℕ) (t : Table) (g : Knowing given t row_count) where
+module _ (given : List ℕ) (t : Table) (so_far : List Record) (g : Knowing given t so_far) (all : so_far ≡ lines_in given) where
   ended : known_rows given ≡ gives (judge_all g.earlier (End t.done.lines ∷ [])) (record { rows = given })
-  unfolding lines_from lines_in
-  ended = g.rest ∙ ap (λ (c : ℕ). gives (judge_all g.earlier (End c ∷ [])) (record { rows = given })) (sym g.count)
+  ended = g.rest [] (sym all ∙ sym (append-nil so_far)) ∙ ap (λ (c : ℕ). gives (judge_all g.earlier (End c ∷ [])) (record { rows = given })) (sym (g.count ∙ ap length all))
 
   -- it is known where the last line is accepted and the table is the same
   pub end_then : (answer : Result Unit Refusal) (new : Table) (same : Bool) → answer ≡ verdict_by t (End t.done.lines) → new ≡ with_line t (End t.done.lines) answer
@@ -145,4 +89,4 @@ module _ (given : List ℕ) (t : Table) (g : Knowing given t row_count) where
 
   pub end_else : (answer : Result Unit Refusal) (ok : Bool) → answer ≡ verdict_by t (End t.done.lines) → ok ≡ is_ok answer → ok ≡ false → ok ≡ known_rows given
   end_else (Ok done) ok v e k = absurd (true≢false (sym e ∙ k))
-  end_else (Err why) ok v e k = k ∙ refused given t row_count g (End t.done.lines) [] why ended v
+  end_else (Err why) ok v e k = k ∙ refused given t so_far g (End t.done.lines) [] why ended v

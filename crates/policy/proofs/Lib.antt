@@ -3,6 +3,7 @@ pub mod ReadLaws
 pub mod Lines
 pub mod OwnText
 pub mod Theorems
+pub mod Chain
 pub mod KnownLaws
 pub mod WriteLaws
 pub mod Session

@@ -78,6 +78,11 @@ texts_append (r ∷ a) b = rw (texts_append a b) (sym (append_assoc (line_text (
 line_short : (r : Record) → length (line_text (bytes_of r)) ≤ 17
 line_short r = omega (arith, text_length (bytes_of r), eight r)
 
+pub texts_short : (lines : List Record) → length (texts_of lines) ≤ 17 * length lines
+unfolding texts_of
+texts_short [] = omega arith
+texts_short (r ∷ lines) = omega (arith, length-append (line_text (bytes_of r)) (texts_of lines), line_short r, texts_short lines)
+
 short_trap : (t : TrapLine) → length (bytes_of (Trap t)) ≤ 5
 unfolding bytes_of
 short_trap t = omega arith

@@ -1,32 +1,26 @@
 -- The lines of a table below a place, one place more: how many they are, and what they are written as. A table's text is that of
 -- its lines and then its last line's, so that a buffer with room for the text has room for each part; laid from the buffer's start
 -- it is what the writer's contract says.
-use Rattle.std.specs.Prelude.{Option, Some, None, Ok, Err}
-use Prim.Native.Nat.{ℕ, zero, suc, ◌+◌, ◌-◌, ◌*◌, ◌≤◌, ◌<◌}
+use Rattle.std.specs.Prelude.{Ok, Err}
+use Prim.Native.Nat.{ℕ, ◌+◌, ◌≤◌, ◌<◌}
 use mathlib.Core.Bool.{Bool, true, false}
 use mathlib.Core.List.{List, [], ◌∷◌, ◌++◌, append-nil}
 use mathlib.Core.Path.{◌≡◌, refl, ap, ap₂, sym, ◌∙◌}
 use native.Mathlib.Omega.{arith}
-use native.Mathlib.Numerals.{add-one}
-use lib.Dec.{eqb}
-use lib.ListN.{length, get_or, drop, length-append}
+use lib.ListN.{length, drop, length-append}
 use borrow.Author.Tests.{le-leb, lt-leb}
 use Rattle.hexline.specs.Writes.{line_text, lay, after}
-use Rattle.hexline.proofs.Cond.{by_cond}
 use Rattle.hexline.proofs.LayLaws.{Laid, laid_none, laid_more, lay_over}
-use Rattle.hexline.proofs.ByteLaws.{text_length}
 use Rattle.records.specs.declared.kind.Record.{Record}
 use Rattle.records.specs.declared.kind.Record.TheVariants.{End}
 use Rattle.records.specs.Kinds.{bytes_of}
-use Rattle.records.proofs.KindLaws.{eight}
-use Rattle.rows.specs.Places.{row_count}
-use Rattle.rows.specs.Rows.{record_at}
-use Rattle.rows.specs.Lines.{line_at, lines_below, lines_in}
+use Rattle.rows.specs.Lines.{lines_in}
 use Rattle.rules.specs.declared.refusal.Refusal.TheVariants.{NotAPolicy, NoRoom}
 use Rattle.policy.specs.declared.value.Policy.{Policy}
 use Rattle.policy.specs.declared.writer.Size.{Size}
 use Rattle.policy.proofs.OwnText.{texts_append}
-use Rattle.policy.specs.Writes.{some_line, texts_of, all_lines, text_of, size_of, known, known_rows, write_of, written_of}
+use Rattle.policy.proofs.Chain.{Taken}
+use Rattle.policy.specs.Writes.{texts_of, all_lines, text_of, size_of, known, known_rows, write_of, written_of}
 
 -- ---- the text of some lines
 
@@ -38,89 +32,9 @@ texts_none : texts_of [] ≡ []
 unfolding texts_of
 texts_none = refl
 
--- ---- the line of a place
-
-module _ {lines : List Record} {line : Option Record} (e : some_line line ≡ lines) where
-  pub is_none : line ≡ None → lines ≡ []
-  unfolding some_line
-  is_none q = sym e ∙ rw q
-
-  pub is_some : {r : Record} → line ≡ Some r → lines ≡ r ∷ []
-  unfolding some_line
-  is_some q = sym e ∙ rw q
-
--- a place has one line at most, and that at most 17 bytes
-record Little (lines : List Record) : Type 0 where
-  one : length lines ≤ 1
-  short : length (texts_of lines) ≤ 17
-
-little : (rows : List ℕ) (i : ℕ) → Little (line_at rows i)
-unfolding line_at texts_of
-little rows i =
-    by_cond Little (eqb (get_or rows i 0) 0) _ _ (λ e. record { one = omega arith; short = omega arith })
-    (λ e.
-    let r = record_at i (get_or rows i 0) in
-    record { one = omega arith; short = omega (arith, ap length (texts_one r), text_length (bytes_of r), eight r) })
-
--- ---- the lines below a place
-
-below_none : (rows : List ℕ) → lines_below rows 0 ≡ []
-unfolding lines_below
-below_none rows = refl
-
-below_more : (rows : List ℕ) (i : ℕ) → lines_below rows (suc i) ≡ lines_below rows i ++ line_at rows i
-unfolding lines_below
-below_more rows i = refl
-
-text_below_none : (rows : List ℕ) → texts_of (lines_below rows 0) ≡ []
-text_below_none rows = ap texts_of (below_none rows) ∙ texts_none
-
-text_below_more : (rows : List ℕ) (i : ℕ) → texts_of (lines_below rows (suc i)) ≡ texts_of (lines_below rows i) ++ texts_of (line_at rows i)
-text_below_more rows i = ap texts_of (below_more rows i) ∙ texts_append (lines_below rows i) (line_at rows i)
-
--- their number and bytes
-pub record Sized (rows : List ℕ) (i lines bytes : ℕ) : Type 0 where
-  pub count : lines ≡ length (lines_below rows i)
-  pub size : bytes ≡ length (texts_of (lines_below rows i))
-  pub few : lines ≤ i
-  pub short : bytes ≤ 17 * i
-
-pub sized_none : (rows : List ℕ) → Sized rows 0 0 0
-sized_none rows =
-    record {
-      count = sym (ap length (below_none rows));
-      size = sym (ap length (text_below_none rows));
-      few = omega arith;
-      short = omega arith;
-    }
-
-sized_more : (rows : List ℕ) (i lines bytes : ℕ) → Sized rows i lines bytes → (line : List Record) → line_at rows i ≡ line
-    → Sized rows (i + 1) (lines + length line) (bytes + length (texts_of line))
-sized_more rows i lines bytes s line e =
-    let n = ap length (below_more rows i) ∙ length-append (lines_below rows i) (line_at rows i) ∙ ap (λ (l : List Record). length (lines_below rows i) + length l) e in
-    let m =
-    ap length (text_below_more rows i) ∙ length-append (texts_of (lines_below rows i)) (texts_of (line_at rows i)) ∙ ap (λ (l : List Record). length (texts_of (lines_below rows i)) + length (texts_of l)) e in
-    let t = rw e at (little rows i) in
-    rw add-one (
-    record {
-      count = omega (arith, n, s.count);
-      size = omega (arith, m, s.size);
-      few = omega (arith, t.one, s.few);
-      short = omega (arith, t.short, s.short);
-    })
-
--- a place without a line, and one with a line
-module _ (rows : List ℕ) (i lines bytes : ℕ) (s : Sized rows i lines bytes) where
-  pub sized_skip : line_at rows i ≡ [] → Sized rows (i + 1) lines bytes
-  sized_skip e =
-      let n : lines ≡ lines + 0 = omega arith in
-      let m : bytes ≡ bytes + length (texts_of []) = omega (arith, ap length texts_none) in
-      rw (n, m) (sized_more rows i lines bytes s [] e)
-
-  pub sized_line : (r : Record) (size : ℕ) → line_at rows i ≡ r ∷ [] → size ≡ length (line_text (bytes_of r)) → Sized rows (i + 1) (lines + 1) (bytes + size)
-  sized_line r size e q =
-      let m : bytes + size ≡ bytes + length (texts_of (r ∷ [])) = omega (arith, ap length (texts_one r)) in
-      rw m (sized_more rows i lines bytes s (r ∷ []) e)
+-- the text with a line more
+pub texts_more : (lines : List Record) (r : Record) → texts_of (lines ++ r ∷ []) ≡ texts_of lines ++ line_text (bytes_of r)
+texts_more lines r = texts_append lines (r ∷ []) ∙ ap (λ (x : List ℕ). texts_of lines ++ x) (texts_one r)
 
 -- ---- a table's text
 
@@ -139,13 +53,12 @@ size_of_lem : (rows : List ℕ) (lines bytes : ℕ) → lines ≡ length (lines_
 unfolding size_of
 size_of_lem rows lines bytes e f = ap₂ sized e f
 
-pub sized_all : (rows : List ℕ) (i lines bytes end : ℕ) → Sized rows i lines bytes → i ≡ row_count → end ≡ length (line_text (bytes_of (End lines)))
-    → sized lines (bytes + end) ≡ size_of rows
-unfolding lines_in
-sized_all rows i lines bytes end s e q =
-    let n : lines ≡ length (lines_in rows) = s.count ∙ ap (λ (k : ℕ). length (lines_below rows k)) e in
-    let m : bytes ≡ length (texts_of (lines_in rows)) = s.size ∙ ap (λ (k : ℕ). length (texts_of (lines_below rows k))) e in
-    size_of_lem rows lines (bytes + end) n (ap₂ (λ (x y : ℕ). x + y) m (q ∙ ap (λ (k : ℕ). length (line_text (bytes_of (End k)))) n) ∙ sym (all_length rows))
+pub sized_all : (rows : List ℕ) (all : List Record) (lines bytes end : ℕ) → all ≡ lines_in rows → lines ≡ length all → bytes ≡ length (texts_of all)
+    → end ≡ length (line_text (bytes_of (End lines))) → sized lines (bytes + end) ≡ size_of rows
+sized_all rows all lines bytes end e n m q =
+    let n' = n ∙ ap length e in
+    let m' = m ∙ ap (λ (l : List Record). length (texts_of l)) e in
+    size_of_lem rows lines (bytes + end) n' (ap₂ (λ (x y : ℕ). x + y) m' (q ∙ ap (λ (k : ℕ). length (line_text (bytes_of (End k)))) n') ∙ sym (all_length rows))
 
 pub size_lines : (p : Policy) (s : Size) → s ≡ size_of p.rows → s.lines ≡ length (lines_in p.rows)
 unfolding size_of
@@ -162,43 +75,21 @@ lines_fit p = omega (arith, all_length p.rows)
 
 -- ---- laid into a buffer
 
--- a place more takes no byte away
-below_less : (rows : List ℕ) (i k : ℕ) → length (texts_of (lines_below rows i)) ≤ length (texts_of (lines_below rows (i + k)))
-below_less rows i zero = let z : i + 0 ≡ i = omega arith in rw z (omega arith)
-below_less rows i (suc k) =
-    let z : i + suc k ≡ suc (i + k) = omega arith in
-    rw z (omega (arith, below_less rows i k, ap length (text_below_more rows (i + k)), length-append (texts_of (lines_below rows (i + k))) (texts_of (line_at rows (i + k)))))
+pub laid_start : (out : List ℕ) → Laid out 0 (texts_of []) out 0
+laid_start out = rw texts_none (laid_none out 0 (omega arith))
 
--- the lines below a place are laid from the buffer's start on
-abbrev pub LaidBelow : List ℕ → List ℕ → ℕ → List ℕ → ℕ → Type 0
-LaidBelow rows out₀ i out at = Laid out₀ 0 (texts_of (lines_below rows i)) out at
+module _ (all so_far : List Record) (r : Record) (out₀ out : List ℕ) (at : ℕ) (l : Laid out₀ 0 (texts_of so_far) out at) where
+  pub laid_line : length (texts_of all) ≤ length out₀ → Taken all so_far r → {out' : List ℕ} {at' : ℕ}
+      → at' ≡ after out at (line_text (bytes_of r)) → out' ≡ lay out at (line_text (bytes_of r)) → Laid out₀ 0 (texts_of (so_far ++ r ∷ [])) out' at'
+  laid_line room it {out'} {at'} p w =
+      let line = line_text (bytes_of r) in
+      let whole = ap texts_of it.whole ∙ texts_append so_far (r ∷ it.left) in
+      let n = ap length whole ∙ length-append (texts_of so_far) (texts_of (r ∷ it.left)) in
+      let m = ap length (texts_append (r ∷ []) it.left) ∙ length-append (texts_of (r ∷ [])) (texts_of it.left) in
+      rw (texts_more so_far r) (laid_more l line out' at' (omega (arith, n, m, ap length (texts_one r), l.ends)) p w)
 
-pub below_start : (rows out : List ℕ) → LaidBelow rows out 0 out 0
-below_start rows out = rw (text_below_none rows) (laid_none out 0 (omega arith))
-
-module _ (rows out₀ : List ℕ) (i : ℕ) (out : List ℕ) (at : ℕ) (l : LaidBelow rows out₀ i out at) where
-  below_lines : (lines : List Record) → line_at rows i ≡ lines → texts_of (lines_below rows (i + 1)) ≡ texts_of (lines_below rows i) ++ texts_of lines
-  below_lines lines e = rw add-one (text_below_more rows i ∙ ap (λ (x : List Record). texts_of (lines_below rows i) ++ texts_of x) e)
-
-  pub below_skip : line_at rows i ≡ [] → LaidBelow rows out₀ (i + 1) out at
-  below_skip e =
-      let same : texts_of (lines_below rows (i + 1)) ≡ texts_of (lines_below rows i) = below_lines [] e ∙ ap (λ (x : List ℕ). texts_of (lines_below rows i) ++ x) texts_none ∙ append-nil _ in
-      rw same l
-
-  pub below_line : i < row_count → length (texts_of (lines_in rows)) ≤ length out₀ → (r : Record) → line_at rows i ≡ r ∷ []
-      → (out' : List ℕ) (at' : ℕ) → at' ≡ after out at (line_text (bytes_of r)) → out' ≡ lay out at (line_text (bytes_of r)) → LaidBelow rows out₀ (i + 1) out' at'
-  unfolding lines_in
-  below_line h room r e out' at' p w =
-      let rest : suc i + (row_count - suc i) ≡ row_count = omega arith in
-      let less = rw rest at (below_less rows (suc i) (row_count - suc i)) in
-      let more : texts_of (lines_below rows (i + 1)) ≡ texts_of (lines_below rows i) ++ line_text (bytes_of r) = below_lines (r ∷ []) e ∙ ap (λ (x : List ℕ). texts_of (lines_below rows i) ++ x) (texts_one r) in
-      let n = ap length more ∙ length-append (texts_of (lines_below rows i)) (line_text (bytes_of r)) in
-      let n' = rw add-one at n in
-      rw more (laid_more l (line_text (bytes_of r)) out' at' (omega (arith, less, n', l.ends)) p w)
-
-pub below_all : (rows out₀ : List ℕ) (i : ℕ) (out : List ℕ) (at : ℕ) → LaidBelow rows out₀ i out at → i ≡ row_count → Laid out₀ 0 (texts_of (lines_in rows)) out at
-unfolding lines_in
-below_all rows out₀ i out at l e = rw e at l
+pub laid_lines : (rows : List ℕ) (so_far : List Record) (out₀ out : List ℕ) (at : ℕ) → Laid out₀ 0 (texts_of so_far) out at → so_far ≡ lines_in rows → Laid out₀ 0 (texts_of (lines_in rows)) out at
+laid_lines rows so_far out₀ out at l e = rw e at l
 
 -- ---- what the writer answers
 

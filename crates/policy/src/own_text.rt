@@ -20,10 +20,7 @@ pub fn known_rows(given: &[u64]) -> bool
     ensures { result ≡ known_rows given.now }
 {
     let mut table = Table::empty();
-    for place in 0..ROWS {
-        let Some(rec) = line_at(given, place) else {
-            continue;
-        };
+    for rec in (0..ROWS).filter_map(move |place| line_at(given, place)) {
         let Ok(()) = table.add(rec) else {
             return false;
         };

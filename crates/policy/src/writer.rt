@@ -33,10 +33,7 @@ fn text_size(rows: &[u64]) -> Size
 {
     let mut lines = 0;
     let mut bytes = 0;
-    for place in 0..ROWS {
-        let Some(rec) = line_at(rows, place) else {
-            continue;
-        };
+    for rec in (0..ROWS).filter_map(|place| line_at(rows, place)) {
         lines += 1;
         bytes += line_size(rec);
     }
@@ -53,10 +50,7 @@ fn put_lines(out: &mut [u8], rows: &[u64]) -> usize
     ensures { (result ≡ length (texts_of (lines_in rows.now))) × (out.new ≡ lay out.old 0 (texts_of (lines_in rows.now))) }
 {
     let mut at = 0;
-    for place in 0..ROWS {
-        let Some(rec) = line_at(rows, place) else {
-            continue;
-        };
+    for rec in (0..ROWS).filter_map(|place| line_at(rows, place)) {
         at = put_record(out, at, rec);
     }
     at

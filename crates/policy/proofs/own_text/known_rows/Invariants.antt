@@ -2,5 +2,5 @@
 use Rattle.policy.proofs.KnownLaws.{Knowing}
 use Rattle.policy.proofs.own_text.known_rows.Given as goal
 
-abbrev pub invariant-loop-place : goal.invariant-loop-place
-invariant-loop-place l = Knowing l.given l.table l.place
+abbrev pub invariant-loop-rec : goal.invariant-loop-rec
+invariant-loop-rec l = Knowing l.given l.table l.yielded
