@@ -37,9 +37,12 @@ first_some (Some r) = refl
 
 first_on : (rows : List ℕ) (i : ℕ) (more : List Record) → line_at rows i ++ more ≡ cons_option (first (line_at rows i)) more
 unfolding line_at
-first_on rows i more = by_cond (λ (l : List Record). l ++ more ≡ cons_option (first l) more) (eqb (get_or rows i 0) 0) _ _ (λ q. refl) (λ q. refl)
+first_on rows i more =
+    by_cond (λ (l : List Record). l ++ more ≡ cons_option (first l) more)
+    (eqb (get_or rows i 0) 0) _ _ (λ q. refl) (λ q. refl)
 
-below_from : (rows : List ℕ) (i n : ℕ) → lines_below rows (i + n) ≡ lines_below rows i ++ filter_map (λ place. first (line_at rows place)) (range_with_len i n)
+below_from : (rows : List ℕ) (i n : ℕ)
+    → lines_below rows (i + n) ≡ lines_below rows i ++ filter_map (λ place. first (line_at rows place)) (range_with_len i n)
 unfolding lines_below
 below_from rows i zero = let z : i + 0 ≡ i = omega arith in rw z (sym (append-nil (lines_below rows i)))
 below_from rows i (suc n) =
@@ -52,7 +55,8 @@ unfolding lines_in lines_below
 yielded_all rows = sym (below_from rows 0 row_count)
 
 -- one item more
-more : {S A : Type 0} (steps : S → Option A → S → Type 0) (s : S) (xs : List A) {t u : S} (x : A) → Yields steps s xs t → steps t (Some x) u → Yields steps s (xs ++ x ∷ []) u
+more : {S A : Type 0} (steps : S → Option A → S → Type 0) (s : S) (xs : List A) {t u : S} (x : A)
+    → Yields steps s xs t → steps t (Some x) u → Yields steps s (xs ++ x ∷ []) u
 more steps s [] {t} {u} x a e = (u, subst (λ k. steps k (Some x) u) (sym a) e, refl)
 more steps s (y ∷ xs) x a e = (a.0, a.1, more steps a.0 xs x a.2 e)
 
@@ -69,24 +73,30 @@ pub all_few : (rows : List ℕ) (all : List Record) → all ≡ lines_in rows �
 unfolding lines_in
 all_few rows all e = omega (arith, few_lines rows row_count, ap length e)
 
-module _ {F : Type 0} {g : Mut F (ℕ × Unit {0}) (Option Record)} {s made t u : FilterMap (Range ℕ) F} {f : F} {o : Option Record} (rows : List ℕ) (so_far : List Record)
+module _ {F : Type 0} {g : Mut F (ℕ × Unit {0}) (Option Record)} {s made t u : FilterMap (Range ℕ) F} {f : F} {o : Option Record}
+    (rows : List ℕ) (so_far : List Record)
     (ran : Yields (filter_map_steps nat_range_steps g) s so_far t) (step : filter_map_steps nat_range_steps g t o u)
-    (same : s ≡ made) (source : filter_map_source made ≡ record { start = 0; end = row_count }) (callee : filter_map_callee made ≡ f)
+    (same : s ≡ made) (source : filter_map_source made ≡ record { start = 0; end = row_count })
+    (callee : filter_map_callee made ≡ f)
     (computes : (x : ℕ) (r : Option Record) (q : F) → Called g f (x, tt) r q → (q ≡ f) × (some_line r ≡ line_at rows x)) where
   chain : YieldsList (filter_map_steps nat_range_steps g) (λ y. y) s (lines_in rows)
   chain =
       rw (sym (yielded_all rows))
-      (YieldsList-at same (YieldsList-from_filter_map g (λ place. first (line_at rows place)) (YieldsList-from_range 0 row_count row_count source (omega arith)) callee
+      (YieldsList-at same (YieldsList-from_filter_map g (λ place. first (line_at rows place))
+      (YieldsList-from_range 0 row_count row_count source (omega arith)) callee
       (λ x r q k. let e = computes x r q k in (e.0, first_some r ∙ ap first e.1))))
 
   pub taken : {r : Record} → o ≡ Some r → Taken (lines_in rows) so_far r
   taken {r} is =
       let xs = so_far ++ r ∷ [] in
       let all = lines_in rows in
-      let front : xs ≡ take (length xs) all = sym (map-id xs) ∙ YieldsList-so_far chain xs u (more (filter_map_steps nat_range_steps g) s so_far {t = t} {u = u} r ran (subst (λ k. filter_map_steps nat_range_steps g t k u) is step)) in
+      let steps = filter_map_steps nat_range_steps g in
+      let ran_on = more steps s so_far {t = t} {u = u} r ran (subst (λ k. steps t k u) is step) in
+      let front : xs ≡ take (length xs) all = sym (map-id xs) ∙ YieldsList-so_far chain xs u ran_on in
       record {
         left = drop (length xs) all;
-        whole = sym (take-append-drop (length xs) all) ∙ ap (λ (l : List Record). l ++ drop (length xs) all) (sym front) ∙ append_assoc so_far (r ∷ []) (drop (length xs) all);
+        whole = sym (take-append-drop (length xs) all) ∙ ap (λ (l : List Record). l ++ drop (length xs) all) (sym front)
+            ∙ append_assoc so_far (r ∷ []) (drop (length xs) all);
       }
 
   pub taken_all : o ≡ None → so_far ≡ lines_in rows

@@ -34,7 +34,8 @@ pub record Knowing (given : List ℕ) (t : Table) (so_far : List Record) : Type 
   pub earlier : List Record
   pub tied : Holds t earlier
   pub count : t.done.lines ≡ length so_far
-  pub rest : (left : List Record) → lines_in given ≡ so_far ++ left → known_rows given ≡ gives (judge_all earlier (left ++ (End (length (lines_in given)) ∷ []))) (record { rows = given })
+  pub rest : (left : List Record) → lines_in given ≡ so_far ++ left
+      → known_rows given ≡ gives (judge_all earlier (left ++ (End (length (lines_in given)) ∷ []))) (record { rows = given })
 
 pub knowing_start : (given : List ℕ) → Knowing given no_lines []
 unfolding no_lines all_lines known_rows known
@@ -74,7 +75,9 @@ module _ (given : List ℕ) (t : Table) (so_far : List Record) (g : Knowing give
 
 module _ (given : List ℕ) (t : Table) (so_far : List Record) (g : Knowing given t so_far) (all : so_far ≡ lines_in given) where
   ended : known_rows given ≡ gives (judge_all g.earlier (End t.done.lines ∷ [])) (record { rows = given })
-  ended = g.rest [] (sym all ∙ sym (append-nil so_far)) ∙ ap (λ (c : ℕ). gives (judge_all g.earlier (End c ∷ [])) (record { rows = given })) (sym (g.count ∙ ap length all))
+  ended =
+      g.rest [] (sym all ∙ sym (append-nil so_far))
+      ∙ ap (λ (c : ℕ). gives (judge_all g.earlier (End c ∷ [])) (record { rows = given })) (sym (g.count ∙ ap length all))
 
   -- it is known where the last line is accepted and the table is the same
   pub end_then : (answer : Result Unit Refusal) (new : Table) (same : Bool) → answer ≡ verdict_by t (End t.done.lines) → new ≡ with_line t (End t.done.lines) answer

@@ -1,6 +1,5 @@
--- The lines of a table below a place, one place more: how many they are, and what they are written as. A table's text is that of
--- its lines and then its last line's, so that a buffer with room for the text has room for each part; laid from the buffer's start
--- it is what the writer's contract says.
+-- A table's text is that of its lines and then its last line's, so that a buffer with room for the text has room for each part; laid
+-- from the buffer's start it is what the writer's contract says.
 use Rattle.std.specs.Prelude.{Ok, Err}
 use Prim.Native.Nat.{ℕ, ◌+◌, ◌≤◌, ◌<◌}
 use mathlib.Core.Bool.{Bool, true, false}
@@ -53,12 +52,14 @@ size_of_lem : (rows : List ℕ) (lines bytes : ℕ) → lines ≡ length (lines_
 unfolding size_of
 size_of_lem rows lines bytes e f = ap₂ sized e f
 
-pub sized_all : (rows : List ℕ) (all : List Record) (lines bytes end : ℕ) → all ≡ lines_in rows → lines ≡ length all → bytes ≡ length (texts_of all)
+pub sized_all : (rows : List ℕ) (all : List Record) (lines bytes end : ℕ)
+    → all ≡ lines_in rows → lines ≡ length all → bytes ≡ length (texts_of all)
     → end ≡ length (line_text (bytes_of (End lines))) → sized lines (bytes + end) ≡ size_of rows
 sized_all rows all lines bytes end e n m q =
     let n' = n ∙ ap length e in
     let m' = m ∙ ap (λ (l : List Record). length (texts_of l)) e in
-    size_of_lem rows lines (bytes + end) n' (ap₂ (λ (x y : ℕ). x + y) m' (q ∙ ap (λ (k : ℕ). length (line_text (bytes_of (End k)))) n') ∙ sym (all_length rows))
+    size_of_lem rows lines (bytes + end) n'
+    (ap₂ (λ (x y : ℕ). x + y) m' (q ∙ ap (λ (k : ℕ). length (line_text (bytes_of (End k)))) n') ∙ sym (all_length rows))
 
 pub size_lines : (p : Policy) (s : Size) → s ≡ size_of p.rows → s.lines ≡ length (lines_in p.rows)
 unfolding size_of
@@ -80,7 +81,8 @@ laid_start out = rw texts_none (laid_none out 0 (omega arith))
 
 module _ (all so_far : List Record) (r : Record) (out₀ out : List ℕ) (at : ℕ) (l : Laid out₀ 0 (texts_of so_far) out at) where
   pub laid_line : length (texts_of all) ≤ length out₀ → Taken all so_far r → {out' : List ℕ} {at' : ℕ}
-      → at' ≡ after out at (line_text (bytes_of r)) → out' ≡ lay out at (line_text (bytes_of r)) → Laid out₀ 0 (texts_of (so_far ++ r ∷ [])) out' at'
+      → at' ≡ after out at (line_text (bytes_of r)) → out' ≡ lay out at (line_text (bytes_of r))
+      → Laid out₀ 0 (texts_of (so_far ++ r ∷ [])) out' at'
   laid_line room it {out'} {at'} p w =
       let line = line_text (bytes_of r) in
       let whole = ap texts_of it.whole ∙ texts_append so_far (r ∷ it.left) in
@@ -88,7 +90,8 @@ module _ (all so_far : List Record) (r : Record) (out₀ out : List ℕ) (at : �
       let m = ap length (texts_append (r ∷ []) it.left) ∙ length-append (texts_of (r ∷ [])) (texts_of it.left) in
       rw (texts_more so_far r) (laid_more l line out' at' (omega (arith, n, m, ap length (texts_one r), l.ends)) p w)
 
-pub laid_lines : (rows : List ℕ) (so_far : List Record) (out₀ out : List ℕ) (at : ℕ) → Laid out₀ 0 (texts_of so_far) out at → so_far ≡ lines_in rows → Laid out₀ 0 (texts_of (lines_in rows)) out at
+pub laid_lines : (rows : List ℕ) (so_far : List Record) (out₀ out : List ℕ) (at : ℕ)
+    → Laid out₀ 0 (texts_of so_far) out at → so_far ≡ lines_in rows → Laid out₀ 0 (texts_of (lines_in rows)) out at
 laid_lines rows so_far out₀ out at l e = rw e at l
 
 -- ---- what the writer answers

@@ -12,14 +12,16 @@ loop-rec-init c = laid_start _
 
 pub loop-rec-preserved : goal.loop-rec-preserved
 loop-rec-preserved c =
-    let it = taken c.args.rows.now _ c.loop-rec.yielded_by c.next.ensures.steps c.into_iter-rec-iterator.ensures.into_iter_gives c.filter_map-rec-items.ensures.source
+    let it = taken c.args.rows.now _ c.loop-rec.yielded_by c.next.ensures.steps
+    c.into_iter-rec-iterator.ensures.into_iter_gives c.filter_map-rec-items.ensures.source
     c.filter_map-rec-items.ensures.closure (λ x r q k. search (rules, tests)) c.in-Some.is in
     let put = c.put_record-at.ensures in
     laid_line _ _ _ _ _ _ c.loop-rec.invariant c.requires it (put_place put) (put_buffer put)
 
 pub returns : goal.returns
 returns c =
-    let e = taken_all c.args.rows.now _ c.loop-rec.yielded_by c.next.ensures.steps c.into_iter-rec-iterator.ensures.into_iter_gives c.filter_map-rec-items.ensures.source
+    let e = taken_all c.args.rows.now _ c.loop-rec.yielded_by c.next.ensures.steps
+    c.into_iter-rec-iterator.ensures.into_iter_gives c.filter_map-rec-items.ensures.source
     c.filter_map-rec-items.ensures.closure (λ x r q k. search (rules, tests)) c.in-None.is in
     let l = laid_lines _ _ _ _ _ c.loop-rec.invariant e in
     (omega (arith, l.ends), laid_is l)

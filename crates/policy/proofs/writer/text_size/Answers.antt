@@ -22,37 +22,63 @@ loop-rec-init c = search rules
 
 pub overflow_add-lines : goal.overflow_add-lines
 overflow_add-lines c =
-    let it = taken c.args.rows.now _ c.loop-rec.yielded_by c.next.ensures.steps c.into_iter-rec-iterator.ensures.into_iter_gives c.filter_map-rec-items.ensures.source
+    let it = taken c.args.rows.now _ c.loop-rec.yielded_by c.next.ensures.steps
+    c.into_iter-rec-iterator.ensures.into_iter_gives c.filter_map-rec-items.ensures.source
     c.filter_map-rec-items.ensures.closure (λ x r q k. search (rules, tests)) c.in-Some.is in
     omega (arith, c.loop-rec.invariant.0, taken_few c.args.rows.now _ _ it)
 
 pub overflow_add-bytes : goal.overflow_add-bytes
 overflow_add-bytes c =
-    let it = taken c.args.rows.now _ c.loop-rec.yielded_by c.next.ensures.steps c.into_iter-rec-iterator.ensures.into_iter_gives c.filter_map-rec-items.ensures.source
+    let it = taken c.args.rows.now _ c.loop-rec.yielded_by c.next.ensures.steps
+    c.into_iter-rec-iterator.ensures.into_iter_gives c.filter_map-rec-items.ensures.source
     c.filter_map-rec-items.ensures.closure (λ x r q k. search (rules, tests)) c.in-Some.is in
     let l = c.loop-rec in
     let rec = c.in-Some.rec in
-    omega (arith, l.invariant.1, taken_few c.args.rows.now _ _ it, texts_short l.yielded, c.line_size-bytes.ensures, text_length (bytes_of rec), eight rec)
+    omega (
+      arith,
+      l.invariant.1,
+      taken_few c.args.rows.now _ _ it,
+      texts_short l.yielded,
+      c.line_size-bytes.ensures,
+      text_length (bytes_of rec),
+      eight rec,
+    )
 
 pub loop-rec-preserved : goal.loop-rec-preserved
 loop-rec-preserved c =
     let l = c.loop-rec in
     let rec = c.in-Some.rec in (
       omega (arith, l.invariant.0, length-append l.yielded (rec ∷ [])),
-      omega (arith, l.invariant.1, c.line_size-bytes.ensures, ap length (texts_more l.yielded rec), length-append (texts_of l.yielded) (line_text (bytes_of rec))),
+      omega (
+        arith,
+        l.invariant.1,
+        c.line_size-bytes.ensures,
+        ap length (texts_more l.yielded rec),
+        length-append (texts_of l.yielded) (line_text (bytes_of rec)),
+      ),
     )
 
 pub overflow_add-result : goal.overflow_add-result
 overflow_add-result c =
-    let e = taken_all c.args.rows.now _ c.loop-rec.yielded_by c.next.ensures.steps c.into_iter-rec-iterator.ensures.into_iter_gives c.filter_map-rec-items.ensures.source
+    let e = taken_all c.args.rows.now _ c.loop-rec.yielded_by c.next.ensures.steps
+    c.into_iter-rec-iterator.ensures.into_iter_gives c.filter_map-rec-items.ensures.source
     c.filter_map-rec-items.ensures.closure (λ x r q k. search (rules, tests)) c.in-None.is in
     let l = c.loop-rec in
     let last = End l.lines in
-    omega (arith, l.invariant.1, all_few c.args.rows.now _ e, texts_short l.yielded, c.line_size.ensures, text_length (bytes_of last), eight last)
+    omega (
+      arith,
+      l.invariant.1,
+      all_few c.args.rows.now _ e,
+      texts_short l.yielded,
+      c.line_size.ensures,
+      text_length (bytes_of last),
+      eight last,
+    )
 
 pub returns : goal.returns
 returns c =
-    let e = taken_all c.args.rows.now _ c.loop-rec.yielded_by c.next.ensures.steps c.into_iter-rec-iterator.ensures.into_iter_gives c.filter_map-rec-items.ensures.source
+    let e = taken_all c.args.rows.now _ c.loop-rec.yielded_by c.next.ensures.steps
+    c.into_iter-rec-iterator.ensures.into_iter_gives c.filter_map-rec-items.ensures.source
     c.filter_map-rec-items.ensures.closure (λ x r q k. search (rules, tests)) c.in-None.is in
     let i = c.loop-rec.invariant in
     sized_all _ _ _ _ _ e i.0 i.1 c.line_size.ensures
