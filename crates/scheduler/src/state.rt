@@ -40,18 +40,16 @@ impl State {
         item_or(&self.entered, cpu as usize, NOBODY)
     }
 
-    pub(crate) fn with_clock(mut self, clock: Clock) -> State
+    pub(crate) fn with_clock(self, clock: Clock) -> State
         ensures { result ≡ with_clock self clock }
     {
-        self.clock = clock;
-        self
+        State { clock, ..self }
     }
 
-    pub(crate) fn with_programs(mut self, programs: Programs) -> State
+    pub(crate) fn with_programs(self, programs: Programs) -> State
         ensures { result ≡ with_programs self programs }
     {
-        self.programs = programs;
-        self
+        State { programs, ..self }
     }
 
     pub(crate) fn with_entered(mut self, cpu: u8, subject: u8) -> State
