@@ -1,5 +1,5 @@
 -- What a caller goes by, of either type: the laws of `specs/Lawful.antt` in the forms that a proof cites. Each takes the type's laws
--- first: `mark_same one_word s v l`, `mark_same four_words s v l` (`Sets.antt`).
+-- first: `mark_other one_word s v k d`, `mark_other four_words s v k d` (`Sets.antt`).
 -- Assumes nothing.
 use Rattle.std.specs.Prelude.{Option, Some, None}
 use mathlib.Core.Path.{◌≡◌, refl, sym, ◌∙◌}
@@ -8,28 +8,19 @@ use mathlib.Core.Logic.{◌⊎◌, inl, inr}
 use Prim.Native.Nat.{ℕ, ◌<◌}
 use native.Mathlib.Omega.{arith}
 use native.Mathlib.Decide.{dec_lt}
-use borrow.Author.Tests.{eq-eqb, ne_eqb}
+use borrow.Author.Tests.{ne_eqb}
 use Rattle.bits.specs.Members.{NoneBelow, Top}
 use Rattle.bits.specs.Lawful.{SetLaws}
 
 module _ {S : Type 0} {n : ℕ} {Fit : S → Type 0} {has : S → ℕ → Bool} {none : S}
     {mark clear : S → ℕ → S} {empty : S → Bool} {highest : S → Option ℕ}
     (laws : SetLaws S n Fit has none mark clear empty highest) where
-  pub mark_same : (s : S) (v : ℕ) → v < n → has (mark s v) v ≡ true
-  mark_same s v l = laws.mark_has s v v l ∙ rw (eq-eqb v v refl)
-
   pub mark_other : (s : S) (v k : ℕ) → (k ≡ v → ⊥) → has (mark s v) k ≡ has s k
   mark_other s v k d = go (dec_lt v n)
     where
       go : Dec (v < n) → has (mark s v) k ≡ has s k
       go (yes l) = laws.mark_has s v k l ∙ rw (ne_eqb k v d)
       go (no g) = laws.mark_past s v k (omega arith)
-
-  pub clear_same : (s : S) (v : ℕ) → has (clear s v) v ≡ false
-  clear_same s v = laws.clear_has s v v ∙ rw (eq-eqb v v refl)
-
-  pub clear_other : (s : S) (v k : ℕ) → (k ≡ v → ⊥) → has (clear s v) k ≡ has s k
-  clear_other s v k d = laws.clear_has s v k ∙ rw (ne_eqb k v d)
 
   pub top_highest : (s : S) {v : ℕ} → Top (has s) n v → highest s ≡ Some v
   top_highest s {v} t = (laws.highest_at s v).1 t
