@@ -5,7 +5,7 @@ use mathlib.Core.Path.{◌≡◌, refl, sym, ap, ◌∙◌}
 use mathlib.Core.Bool.{true, false, true≢false}
 use mathlib.Core.List.{List, [], ◌∷◌}
 use mathlib.Core.Logic.{◌↔◌}
-use Prim.Native.Nat.{ℕ, zero, suc, ◌+◌, ◌*◌, ◌^◌, ◌≤◌, ◌<◌}
+use Prim.Native.Nat.{ℕ, zero, suc, ◌+◌, ◌-◌, ◌*◌, ◌^◌, ◌≤◌, ◌<◌, min}
 use native.Mathlib.Nat.{lt_of_lt_of_le}
 use native.Mathlib.Omega.{arith}
 use native.Mathlib.Decide.{dec_lt, dec_le}
@@ -107,6 +107,17 @@ unfolding is_empty
 zero_words {n} s b l f e =
     let told = bytes_eq-Decides s.words (replicate n 0) in
     e ∙ rw (words_are s l) (one_answer _ _ told (empty_decides s.words n l (λ i. (f i).fits)))
+
+-- a walk from the last byte, or from the last number of the words, finds the highest
+pub top_enough : {n : ℕ} (s : Bits n) (top : ℕ) → top ≡ min n 4 * 64 - 1 → highest_below (words_of s) (suc top) ≡ highest_number s
+unfolding highest_number
+top_enough {n} s top e = go (dec_lt n 4)
+  where
+    go : Dec (n < 4) → highest_below (words_of s) (suc top) ≡ highest_below (words_of s) 256
+    go (yes l) =
+        highest_past (words_of s) (suc top) (rw (wide s) (omega arith))
+        ∙ sym (highest_past (words_of s) 256 (rw (wide s) (omega arith)))
+    go (no g) = let all : suc top ≡ 256 = omega arith in ap (highest_below (words_of s)) all
 
 -- most sets are empty, and these are told first
 pub none_highest : {n : ℕ} (s : Bits n) → is_empty s ≡ true → highest_number s ≡ None

@@ -3,7 +3,7 @@
 use mathlib.Core.Path.{◌≡◌, refl, sym, ap, ◌∙◌}
 use mathlib.Core.Bool.{Bool, true, false, cond}
 use mathlib.Core.List.{List, [], ◌∷◌}
-use Prim.Native.Nat.{ℕ, zero, suc, ◌+◌, ◌-◌}
+use Prim.Native.Nat.{ℕ, zero, suc, ◌+◌, ◌-◌, ◌*◌, min}
 use native.Mathlib.Omega.{arith}
 use Rattle.std.specs.Prelude.{Option, Some}
 use Rattle.std.specs.declared.ops.RangeInclusive.{RangeInclusive}
@@ -22,6 +22,7 @@ use Rattle.std.proofs.lemmas.Iterator.Search.{find_from_yields_List}
 use Rattle.bits.specs.declared.set.Bits.{Bits}
 use Rattle.bits.specs.Members.{has, highest_below}
 use Rattle.bits.specs.Sets.{words_of, has_number, highest_number}
+use Rattle.bits.proofs.Sets.{top_enough}
 
 -- the numbers below n, from the top
 abbrev downward : ℕ → List ℕ
@@ -51,24 +52,25 @@ downs (suc n) s z e = (
   λ x t p. (p.1.0 ∙ left_end s.iter.start s.iter.end s.iter.exhausted n z e, downs n t (p.0 ∙ z) (omega (arith, p.1.1))),
 )
 
-walk : (s : Rev (RangeInclusive ℕ)) → range_inclusive_start s.iter ≡ 0 → range_inclusive_end s.iter ≡ 255 → range_inclusive_exhausted s.iter ≡ false
-    → YieldsList down_steps (λ x. x) s (downward 256)
-walk s first last fresh = record { runs = downs 256 s first (rw (first, last, fresh) refl) }
+walk : (top : ℕ) (s : Rev (RangeInclusive ℕ)) → range_inclusive_start s.iter ≡ 0 → range_inclusive_end s.iter ≡ top → range_inclusive_exhausted s.iter ≡ false
+    → YieldsList down_steps (λ x. x) s (downward (suc top))
+walk top s first last fresh = record { runs = downs (suc top) s first (rw (first, last, fresh) (omega arith)) }
 
 find_highest : (words : List ℕ) (n : ℕ) → find (has words) (downward n) ≡ highest_below words n
 unfolding highest_below
 find_highest words zero = refl
 find_highest words (suc n) = ap (cond (has words n) (Some n)) (find_highest words n)
 
--- `(0..=255u8).rev().find(..)`, where the closure tests the set
+-- `(0..=top).rev().find(..)`, where the closure tests the set, and top is the last byte or the last number of its words
 pub walked : {n : ℕ} {F : Type 0} {g : Mut F (Bor ℕ × Unit {0}) Bool} {s : Rev (RangeInclusive ℕ)}
-    (set : Bits n) (u : Rev (RangeInclusive ℕ)) (f : F) (r : Option ℕ)
+    (set : Bits n) (top : ℕ) → top ≡ min n 4 * 64 - 1 → (u : Rev (RangeInclusive ℕ)) (f : F) (r : Option ℕ)
     → (xs : List ℕ) × (j : F) × YieldsThen down_steps s xs r u × FoldsTo (λ p x q. CalledAt g p x false q) f xs j
     × MatchOption r ⊤ (λ x. (h : F) × CalledAt g j x true h)
-    → range_inclusive_start s.iter ≡ 0 → range_inclusive_end s.iter ≡ 255 → range_inclusive_exhausted s.iter ≡ false
+    → range_inclusive_start s.iter ≡ 0 → range_inclusive_end s.iter ≡ top → range_inclusive_exhausted s.iter ≡ false
     → ((x : ℕ) (b : Bool) (q : F) → CalledAt g f x b q → (q ≡ f) × (b ≡ has_number set x)) → r ≡ highest_number set
 unfolding has_number highest_number
-walked set u f r ran first last fresh tests =
+walked set top bound u f r ran first last fresh tests =
     sym (option_map_id r)
-    ∙ find_from_yields_List (has (words_of set)) u f r ran (walk _ first last fresh) tests
-    ∙ find_highest (words_of set) 256
+    ∙ find_from_yields_List (has (words_of set)) u f r ran (walk top _ first last fresh) tests
+    ∙ find_highest (words_of set) (suc top)
+    ∙ top_enough set top bound

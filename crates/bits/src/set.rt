@@ -1,11 +1,14 @@
 // A set of numbers, in words: number v is bit v % 64 of word v / 64. A number past the last word is in no set: to mark or clear it
-// changes nothing. Numbers are bytes, so no method reaches a word past the fourth.
+// changes nothing. Numbers are bytes, so of a word past the fourth only `is_empty` tells.
 #![tactic(auto, using(crate::proofs::Sets::words_are, crate::proofs::Sets::past_words), unfolding(crate::specs::Members::has, crate::specs::Members::marked, crate::specs::Members::cleared, crate::specs::Sets::has_number, crate::specs::Sets::no_numbers, crate::specs::Sets::mark_number, crate::specs::Sets::clear_number))]
 
 ghost use Rattle.std.specs.Prelude.{◌≡◌};
 ghost use Rattle.bits.specs.Sets.{has_number, no_numbers, mark_number, clear_number, is_empty, highest_number};
 
 use crate::word::{WORD_BITS, clear_bit, set_bit, test_bit};
+
+// Words that have a number which is a byte.
+const BYTE_WORDS: usize = 4;
 
 #[derive(Clone, Copy, Drop)]
 pub struct Bits<const WORDS: usize> {
@@ -56,14 +59,16 @@ impl<const WORDS: usize> Bits<WORDS> {
         self.words == [0; WORDS]
     }
 
-    // A walk down from the top; most sets are empty, and these are told first.
+    // A walk down from the top of the words; most sets are empty, and these are told first.
     pub fn highest(self) -> Option<u8>
         ensures { result ≡ highest_number self.entry }
     {
         if self.is_empty() {
             return None;
         }
-        (0..=u8::MAX).rev().find(
+        let numbers = WORDS.min(BYTE_WORDS) * WORD_BITS as usize;
+        let top = numbers.saturating_sub(1) as u8;
+        (0..=top).rev().find(
             |&v| -> bool
                 ensures { result ≡ has_number self v }
             { self.test(v) },

@@ -11,4 +11,4 @@ pub returns-then-is_empty : goal.returns-then-is_empty
 returns-then-is_empty g c = sym (none_highest c.args.self (sym c.if-is_empty.ensures))
 
 pub returns : goal.returns
-returns g c = walked c.args.self _ _ _ c.find.ensures.ran (search rules) (search rules) (search rules) (λ x b q k. search (rules, tests))
+returns g c = walked c.args.self c.saturating_sub-top.result (search rules) _ _ _ c.find.ensures.ran (search rules) (search rules) (search rules) (λ x b q k. search (rules, tests))
