@@ -1,11 +1,12 @@
 // From the reader's answer: a start, or the refusal with its line.
-#![tactic(auto, unfolding(crate::specs::Start::not_started, crate::specs::Start::started_with, crate::specs::Start::started_by, crate::specs::Start::start_of))]
+#![tactic(auto, unfolding(crate::specs::Start::not_started, crate::specs::Start::started_with, crate::specs::Start::started_by, crate::specs::Start::start_of, policy::specs::Writes::known_rows))]
 
 ghost use Rattle.std.specs.Prelude.{◌≡◌};
 ghost use Rattle.scheduler.specs.Start.{not_started, started_with, start_of};
 
 use crate::state::State;
-use policy::{Policy, Reading, known};
+use policy::own_text::known_rows;
+use policy::{Policy, Reading};
 use rules::Refusal;
 
 // The verdict, and beside it the state: fresh, or all zeros where nothing is started.
@@ -29,7 +30,7 @@ fn not_started(verdict: Result<(), Refusal>) -> Started
 pub fn start_with(policy: Policy) -> Started
     ensures { result ≡ started_with policy }
 {
-    if !known(policy) {
+    if !known_rows(&policy.rows) {
         return not_started(Err(Refusal::NotAPolicy));
     }
     Started {

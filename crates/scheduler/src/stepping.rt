@@ -1,12 +1,13 @@
 // One call: refusals 80 to 85, first that applies, then the call.
-#![tactic(auto, unfolding(crate::specs::Steps::no_such, crate::specs::Steps::bad_flag, crate::specs::Steps::minds, crate::specs::Steps::after_stop, crate::specs::Steps::nobody_there, crate::specs::Steps::answered, crate::specs::Steps::served, crate::specs::Steps::step_of))]
+#![tactic(auto, unfolding(crate::specs::Steps::no_such, crate::specs::Steps::bad_flag, crate::specs::Steps::minds, crate::specs::Steps::after_stop, crate::specs::Steps::nobody_there, crate::specs::Steps::answered, crate::specs::Steps::served, crate::specs::Steps::step_of, policy::specs::Writes::known_rows))]
 
 ghost use Rattle.std.specs.Prelude.{◌≡◌};
 ghost use Rattle.scheduler.specs.Steps.{no_such, bad_flag, minds, after_stop, nobody_there, answered, served, step_of};
 
 use crate::state::{NOBODY, State, Stepped};
 use calls::{Call, Refusal};
-use policy::{Policy, known};
+use policy::Policy;
+use policy::own_text::known_rows;
 use rows::counts_of;
 
 // A flag goes to so much.
@@ -100,7 +101,7 @@ pub fn serve(rows: &[u64], state: State, heard: Option<Call>) -> Stepped
 pub fn step(policy: Policy, state: State, heard: Option<Call>) -> Stepped
     ensures { result ≡ step_of policy state heard }
 {
-    if !known(policy) || !state.in_range(&policy.rows) {
+    if !known_rows(&policy.rows) || !state.in_range(&policy.rows) {
         return state.refused(Refusal::OutOfRange);
     }
     serve(&policy.rows, state, heard)
