@@ -23,17 +23,22 @@ pub(crate) fn written<T, F: FnOnce(Result<usize, Refusal>, &[u8]) -> T>(
     then(answer, &out)
 }
 
-// How many bytes from a place on are no longer the filler.
-pub(crate) fn changed(out: &[u8], from: usize) -> usize {
-    out.iter().skip(from).filter(|b| **b != FILLER).count()
+// What stands from a place on.
+fn past(out: &[u8], from: usize) -> &[u8] {
+    out.get(from..).unwrap_or(&[])
 }
 
-// Whether the buffer is as it was.
+// How many bytes from a place on are no longer the filler.
+pub(crate) fn changed(out: &[u8], from: usize) -> usize {
+    past(out, from).iter().filter(|b| **b != FILLER).count()
+}
+
+// Whether the buffer, or a part of it, is as it was.
 pub(crate) fn is_kept(out: &[u8]) -> bool {
-    changed(out, 0) == 0
+    [FILLER; SIZE].starts_with(out)
 }
 
 // Whether the answer is the text's length, the buffer begins with the text, and past it all is as it was.
 pub(crate) fn is_whole(answer: Result<usize, Refusal>, text: &[u8], out: &[u8]) -> bool {
-    answer.is_ok_and(|n| n == text.len() && out.starts_with(text) && changed(out, n) == 0)
+    answer.is_ok_and(|n| n == text.len() && out.starts_with(text) && is_kept(past(out, n)))
 }

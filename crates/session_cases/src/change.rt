@@ -3,7 +3,7 @@
 // A change is a line `!` and bytes in digits: the field; its index, which is a CPU, partition, group, subject or IRQ line, or 00
 // where there is one only; its value in two bytes. Field 00 is a row of the policy: its place in two bytes, the row in eight.
 use crate::bench::Bench;
-use cases::{row_of, with_row};
+use cases::row_of;
 use clock::CpuClock;
 use hexline::{byte_at, number_at};
 use meaning::SubjectVector;
@@ -46,16 +46,15 @@ fn change_state(state: &mut State, field: u8, index: u8, value: u16) {
 }
 
 // What the bytes of a change make of the policy and the state.
-pub(crate) fn changed(mut bench: Bench, bytes: &[u8]) -> Bench {
+pub(crate) fn change_bench(bench: &mut Bench, bytes: &[u8]) {
     match byte_at(bytes, 0) {
         0x00 => {
             let row = row_of(bytes.get(6..).unwrap_or(&[]));
-            bench.policy = with_row(bench.policy, number_at(bytes, 1) as usize, row);
+            store(&mut bench.policy.rows, number_at(bytes, 1) as usize, row);
         }
         field => {
             let (index, value) = (byte_at(bytes, 1), number_at(bytes, 2));
             change_state(&mut bench.state, field, index, value);
         }
     }
-    bench
 }

@@ -1,6 +1,6 @@
 // A policy read and started, and its calls played one after the other.
 use crate::bench::Bench;
-use crate::change::changed;
+use crate::change::change_bench;
 use calls::{Answer, hear, put_answer};
 use cases::Refused;
 use policy::read;
@@ -15,23 +15,20 @@ fn print_answer(rt: &impl Print, answer: Answer) -> io::Result<()> {
 }
 
 // A line among the calls: a call, which is answered, or a change.
-fn told(rt: &impl Print, bench: Bench, line: &[u8]) -> io::Result<Bench> {
+fn tell(rt: &impl Print, bench: &mut Bench, line: &[u8]) -> io::Result<()> {
     if let [b'!', bytes @ ..] = line {
-        return Ok(changed(bench, bytes));
+        change_bench(bench, bytes);
+        return Ok(());
     }
     let stepped = step(bench.policy, bench.state, hear(line));
-    print_answer(rt, stepped.answer)?;
-    Ok(Bench {
-        state: stepped.state,
-        ..bench
-    })
+    bench.state = stepped.state;
+    print_answer(rt, stepped.answer)
 }
 
 // Each line of the calls in turn.
-fn play(rt: &impl Print, bench: Bench, calls: &[u8]) -> io::Result<()> {
-    let mut now = bench;
+fn play(rt: &impl Print, mut bench: Bench, calls: &[u8]) -> io::Result<()> {
     for line in calls.split_inclusive(|b| *b == b'\n') {
-        now = told(rt, now, line)?;
+        tell(rt, &mut bench, line)?;
     }
     Ok(())
 }
