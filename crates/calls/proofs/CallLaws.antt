@@ -102,15 +102,15 @@ whole_bytes text more n end w =
     let e : line_text bytes ++ (drop end text ++ more) ≡ text ++ more = sym (append_assoc (line_text bytes) (drop end text) more) ∙ ap (λ (t : List ℕ). t ++ more) (sym w.written) in
     rw (e, w.count) at b
 
-line_whole : (text : List ℕ) (n end : ℕ) → line_of text ≡ Whole n end → call_line text ≡ Some (record { heard = heard_in (take n (spelled text)); end = end })
+pub line_whole : (text : List ℕ) (n end : ℕ) → line_of text ≡ Whole n end → call_line text ≡ Some (record { heard = heard_in (take n (spelled text)); end = end })
 unfolding call_line call_in
 line_whole text n end e = rw e
 
-line_none : (text : List ℕ) → line_of text ≡ UnendedLine → call_line text ≡ None
+pub line_none : (text : List ℕ) → line_of text ≡ UnendedLine → call_line text ≡ None
 unfolding call_line call_in
 line_none text e = rw e
 
-heard_ended : (text : List ℕ) (h : Option Call) (end : ℕ) → call_line text ≡ Some (record { heard = h; end = end }) → heard_of text ≡ h
+pub heard_ended : (text : List ℕ) (h : Option Call) (end : ℕ) → call_line text ≡ Some (record { heard = h; end = end }) → heard_of text ≡ h
 unfolding heard_of heard_from
 heard_ended text h end e = rw e
 

@@ -69,11 +69,11 @@ line_whole_text (b ∷ text) f = rw (ne_eqb b newline (f 0)) (ap suc (line_whole
 
 -- ---- the reader's search for a newline, in what is left behind the digits
 
-search_stop : (text : List ℕ) (i : ℕ) → i < length text → get_or text i 0 ≡ newline → line_length (drop i text) ≡ 0
+pub search_stop : (text : List ℕ) (i : ℕ) → i < length text → get_or text i 0 ≡ newline → line_length (drop i text) ≡ 0
 unfolding line_length
 search_stop text i h e = rw (drop-cons text i 0 h, eq-eqb _ _ e)
 
-search_more : (text : List ℕ) (i : ℕ) → i < length text → (get_or text i 0 ≡ newline → ⊥) → line_length (drop i text) ≡ suc (line_length (drop (suc i) text))
+pub search_more : (text : List ℕ) (i : ℕ) → i < length text → (get_or text i 0 ≡ newline → ⊥) → line_length (drop i text) ≡ suc (line_length (drop (suc i) text))
 unfolding line_length
 search_more text i h e = rw (drop-cons text i 0 h, ne_eqb _ _ e)
 
@@ -83,11 +83,11 @@ unfolding line_length
 searched text =
     rw (is_position_or_len line_length (λ b. eqb b newline) refl (λ b more. ap (λ (n : ℕ). cond (eqb b newline) 0 n) (omega arith)) text)
 
-ended_short : (text : List ℕ) (n : ℕ) → n < length text → ended_at text n ≡ IllFormed (suc n)
+pub ended_short : (text : List ℕ) (n : ℕ) → n < length text → ended_at text n ≡ IllFormed (suc n)
 unfolding ended_at
 ended_short text n h = rw (ne_eqb n (length text) (λ e. omega arith))
 
-ended_whole : (text : List ℕ) (n : ℕ) → n ≡ length text → ended_at text n ≡ Unended
+pub ended_whole : (text : List ℕ) (n : ℕ) → n ≡ length text → ended_at text n ≡ Unended
 unfolding ended_at
 ended_whole text n e = rw (eq-eqb n (length text) e)
 

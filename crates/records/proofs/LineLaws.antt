@@ -28,15 +28,15 @@ use Rattle.records.proofs.KindLaws.{written, sound_bytes, read}
 
 -- ---- by the line that the text begins with
 
-line_got : (text : List ℕ) (n end : ℕ) → line_of text ≡ Whole n end → n ≡ size_of (byte_at text 0) → record_line text ≡ Ok (record_of (spelled text), end)
+pub line_got : (text : List ℕ) (n end : ℕ) → line_of text ≡ Whole n end → n ≡ size_of (byte_at text 0) → record_line text ≡ Ok (record_of (spelled text), end)
 unfolding record_line record_in
 line_got text n end e h = rw (e, eq-eqb n (size_of (byte_at text 0)) h)
 
-line_wrong : (text : List ℕ) (n end : ℕ) → line_of text ≡ Whole n end → (n ≡ size_of (byte_at text 0) → ⊥) → record_line text ≡ Err WrongKind
+pub line_wrong : (text : List ℕ) (n end : ℕ) → line_of text ≡ Whole n end → (n ≡ size_of (byte_at text 0) → ⊥) → record_line text ≡ Err WrongKind
 unfolding record_line record_in
 line_wrong text n end e h = rw (e, ne_eqb n (size_of (byte_at text 0)) h)
 
-line_ill_formed : (text : List ℕ) → ((n end : ℕ) → line_of text ≡ Whole n end → ⊥) → record_line text ≡ Err IllFormed
+pub line_ill_formed : (text : List ℕ) → ((n end : ℕ) → line_of text ≡ Whole n end → ⊥) → record_line text ≡ Err IllFormed
 unfolding record_line record_in
 line_ill_formed text h = of (line_of text) refl
   where
