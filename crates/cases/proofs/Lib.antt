@@ -1,3 +1,4 @@
 pub mod PartLaws
 pub mod RefusalLaws
 pub mod ReadLaws
+pub mod CaseLaws

@@ -1,3 +1,4 @@
 pub mod Parts
+pub mod Cases
 pub mod Changes
 pub mod Refusals

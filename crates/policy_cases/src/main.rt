@@ -15,6 +15,8 @@
 // is seen by its output.
 #![tactic(auto)]
 
+ghost use Rattle.std.specs.Prelude.{codes};
+
 use cases::{Cases, without_last};
 use std::io;
 
@@ -33,7 +35,11 @@ fn name_in(first: &[u8]) -> &[u8] {
 }
 
 impl Cases for Texts {
-    const MARK: &'static [u8] = b"#";
+    ghost mark = { codes "#" };
+
+    fn mark() -> &'static [u8] {
+        b"#"
+    }
 
     fn run(rt: &impl Print, line: &[u8], text: &[u8]) -> io::Result<()> {
         let first = line.strip_suffix(b"\n").unwrap_or(line);
@@ -52,5 +58,6 @@ impl Cases for Texts {
 }
 
 fn main(rt: HostRuntime) -> io::Result<()> {
-    Texts::run_all(&rt)
+    Texts::run_all(&rt, &mut rt.reader())?;
+    Ok(())
 }

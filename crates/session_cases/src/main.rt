@@ -10,6 +10,8 @@
 // is seen by its output.
 #![tactic(auto)]
 
+ghost use Rattle.std.specs.Prelude.{codes};
+
 use cases::{Cases, split_at_line, split_line, without_last};
 use std::io;
 
@@ -26,7 +28,11 @@ const OPEN_AT: usize = 6;
 struct Sessions;
 
 impl Cases for Sessions {
-    const MARK: &'static [u8] = b"# ";
+    ghost mark = { codes "# " };
+
+    fn mark() -> &'static [u8] {
+        b"# "
+    }
 
     fn run(rt: &impl Print, first: &[u8], text: &[u8]) -> io::Result<()> {
         rt.write_all(first)?;
@@ -40,5 +46,6 @@ impl Cases for Sessions {
 }
 
 fn main(rt: HostRuntime) -> io::Result<()> {
-    Sessions::run_all(&rt)
+    Sessions::run_all(&rt, &mut rt.reader())?;
+    Ok(())
 }
