@@ -1,4 +1,5 @@
--- The cases of a text, in the order in which they are run.
+-- The cases of a text, one after the other: those that `run_all` runs. A case ends where the next line begins with the mark; that is
+-- looked for in what there is room for, so a case longer than the room is several. No more than the most are run.
 use Rattle.std.specs.Prelude.{ℕ, zero, suc, List, [], ◌∷◌, take, drop}
 use Rattle.cases.specs.Parts.{marked_from, line_end}
 
